@@ -1,0 +1,4 @@
+pub mod Joining
+pub mod Performing
+pub mod Texts
+pub mod Answering

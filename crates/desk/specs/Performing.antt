@@ -1,0 +1,91 @@
+-- What each call does, by how far the script has come.
+use mathlib.Core.Path.{_≡_}
+use mathlib.Core.Bool.{cond}
+use mathlib.Core.List.{List}
+use Prim.Native.Nat.{ℕ}
+use lib.ListN.{length}
+use Rattle.std.specs.Results.{isOk}
+use Rattle.std.specs.declared.alloc.AllocError.{AllocError}
+use Rattle.std.specs.declared.option.Option.{Option}
+use Rattle.std.specs.declared.option.Option.the-variants.{Some, None}
+use Rattle.std.specs.declared.result.Result.{Result}
+use Rattle.std.specs.declared.result.Result.the-variants.{Ok, Err}
+use Rattle.book.specs.Books.{Holdings, bookOf, opened}
+use Rattle.script.specs.Asked.{Call, action, opening, test, vocabulary}
+use Rattle.script.specs.declared.command.Part.{Part}
+use Rattle.sheet.specs.Faults as nameFaults
+use Rattle.sheet.specs.Laid.{LaidOut, begun, nameActionOn, nameTestOn, sheetOf, withActionNamed, withTestNamed}
+use Rattle.sheet.specs.declared.fault.NameFault.{NameFault}
+use Rattle.vocabulary.specs.Faults as vocabularyFaults
+use Rattle.vocabulary.specs.Meaning.{VocabularyMeaning}
+use Rattle.vocabulary.specs.declared.fault.VocabularyFault.{VocabularyFault}
+use Rattle.desk.specs.Joining.{vocabularyOf}
+use Rattle.desk.specs.declared.desk.Desk.{Desk}
+use Rattle.desk.specs.declared.desk.Desk.the-variants.{Empty, Laid, Opened}
+use Rattle.desk.specs.declared.reply.Reply.{Reply}
+use Rattle.desk.specs.declared.reply.Reply as reply
+
+-- Nothing, a sheet being laid out, or an opened book.
+pub data Stage : Type 0 where
+  bare : Stage
+  laying : LaidOut → Stage
+  open-book : Holdings → Stage
+
+-- What a desk of the code holds.
+abbrev pub deskOf : Desk → Stage
+deskOf Empty = bare
+deskOf (Laid sheet) = laying (sheetOf sheet)
+deskOf (Opened book) = open-book (bookOf book)
+
+-- What a call is answered, and how things stand afterwards.
+pub record Outcome : Type 0 where
+  pub reply : Option Reply
+  pub after : Stage
+
+-- A call at the wrong time has no reply, and changes nothing.
+abbrev pub wrongTime : Stage → Outcome
+wrongTime stage = record { reply = None; after = stage }
+
+-- A vocabulary begins a sheet, unless it is refused.
+abbrev pub beginning : Result VocabularyMeaning VocabularyFault → Outcome
+beginning (Ok meaning) = record { reply = Some (reply.the-variants.Vocabulary (meaning .situations) (meaning .tests)); after = laying (begun meaning) }
+beginning (Err fault) = record { reply = Some (reply.the-variants.Refused (vocabularyFaults.refusalOf fault)); after = bare }
+
+-- A name is given its number, or is refused.
+abbrev pub numbered : Result ℕ NameFault → Reply
+numbered (Ok number) = reply.the-variants.Number number
+numbered (Err fault) = reply.the-variants.Refused (nameFaults.refusalOf fault)
+
+-- On an empty desk only a vocabulary has its time.
+abbrev pub performedBare : Call → Outcome
+performedBare (vocabulary parts) = beginning (vocabularyOf parts)
+performedBare (test name) = wrongTime bare
+performedBare (action name) = wrongTime bare
+performedBare opening = wrongTime bare
+
+-- On a sheet names are given, and it is opened.
+abbrev pub performedLaying : LaidOut → Call → Outcome
+performedLaying sheet (vocabulary parts) = wrongTime (laying sheet)
+performedLaying sheet (test name) = record {
+  reply = Some (numbered (nameTestOn sheet name));
+  after = laying (cond (isOk (nameTestOn sheet name)) (withTestNamed sheet name) sheet);
+}
+performedLaying sheet (action name) = record {
+  reply = Some (numbered (nameActionOn sheet name));
+  after = laying (cond (isOk (nameActionOn sheet name)) (withActionNamed sheet name) sheet);
+}
+performedLaying sheet opening = record {
+  reply = Some (reply.the-variants.Opened (length (sheet .names .tests)) (length (sheet .names .actions)));
+  after = open-book (opened sheet);
+}
+
+-- What a call does.
+abbrev pub performed : Stage → Call → Outcome
+performed bare call = performedBare call
+performed (laying sheet) call = performedLaying sheet call
+performed (open-book book) call = wrongTime (open-book book)
+
+-- A call was carried out as it should be, or found no memory and changed nothing.
+abbrev pub Done : Stage → Call → Result (Option Reply) AllocError → Stage → Type 0
+Done before call (Ok answer) after = (answer ≡ performed before call .reply) × (after ≡ performed before call .after)
+Done before call (Err none) after = after ≡ before

@@ -1,0 +1,3 @@
+pub mod Additions
+pub mod Few
+pub mod Found

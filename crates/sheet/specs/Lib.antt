@@ -1,0 +1,5 @@
+pub mod Faults
+pub mod Held
+pub mod Naming
+pub mod Spelling
+pub mod Laid
