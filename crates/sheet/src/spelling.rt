@@ -6,7 +6,7 @@ use crate::fault::NameFault;
 use crate::name::Name;
 use keys::Key;
 use keys::Keyed;
-use signs::names::is_name;
+use signs::is_name;
 
 impl Name {
     // The bytes as a name; refused where they are none.

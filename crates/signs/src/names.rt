@@ -2,16 +2,17 @@
 // and `stop`. Nothing outside this crate knows what a name is made of.
 ghost use mathlib.Core.Path.{_≡_};
 ghost use Rattle.signs.specs.Names.{every, inner, isName, letter, spelled};
+use crate::limits::NAME_BYTES;
 
 // Whether the byte is an ASCII letter.
-fn is_letter(b: u8) -> bool
+pub(crate) fn is_letter(b: u8) -> bool
     ensures { λ r. ⌜ r ≡ letter b ⌝ }
 {
     matches!(char::from(b), 'A'..='Z' | 'a'..='z')
 }
 
 // Whether the byte may stand in a name behind its first.
-fn is_inner(b: u8) -> bool
+pub(crate) fn is_inner(b: u8) -> bool
     ensures { λ r. ⌜ r ≡ inner b ⌝ }
 {
     matches!(char::from(b), 'A'..='Z' | 'a'..='z' | '0'..='9' | '_')
@@ -46,7 +47,7 @@ pub fn is_name(bytes: &[u8]) -> bool
     match bytes {
         b"skip" => false,
         b"stop" => false,
-        _ => is_spelled(bytes) && bytes.len() <= 12,
+        _ => is_spelled(bytes) && bytes.len() <= NAME_BYTES,
     }
 }
 

@@ -1,4 +1,5 @@
-use mathlib.Core.Path.{_≡_, sym, _∙_}
+-- One byte further, what is still ahead decides as before.
+use mathlib.Core.Path.{sym, _∙_}
 use Rattle.signs.specs.Names.{inner}
 use Rattle.signs.proofs.Every.{every-drop-yes, every-drop-no, every-drop-all}
 use Rattle.signs.proofs.names.all_inner.Needs as need

@@ -1,3 +1,4 @@
+-- The two words, as their slice patterns read, and everything else.
 use mathlib.Core.Path.{_≡_}
 use mathlib.Core.Bool.{false}
 use native.Mathlib.Omega.{arith}
