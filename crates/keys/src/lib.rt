@@ -39,3 +39,6 @@ pub fn find<E: Keyed>(list: &[E], key: &E::By) -> Option<usize>
     }
     None
 }
+
+#[cfg(test)]
+mod tests;

@@ -9,7 +9,7 @@ use Rattle.std.specs.declared.result.Result.the-variants.{Ok, Err}
 use Rattle.std.specs.shelf.Text.{sameBytes}
 use Rattle.std.proofs.shelf.Equals.{sameBytes-decides}
 use Rattle.keys.specs.Keys.{SameLaws}
-use Rattle.keys.proofs.Marks.{by-mark}
+use Rattle.keys.specs.Marks.{by-mark}
 use Rattle.signs.specs.Names.{isName}
 use Rattle.sheet.specs.declared.fault.NameFault.{NameFault}
 use Rattle.sheet.specs.declared.fault.NameFault.the-variants.{NotAName}

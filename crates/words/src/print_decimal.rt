@@ -14,9 +14,9 @@ const MOST: usize = 20;
 
 // Writes the number's decimal digits behind what `out` holds; without memory for them, `out` stays as it was.
 pub fn push_decimal(out: &mut Vec<u8>, n: u64) -> Result<(), AllocError>
-    ensures items { λ r. ⌜ vec-items (now (out .exit)) ≡ cond (isOk r) (vec-items (now (out .entry)) ++ decimal n) (vec-items (now (out .entry))) ⌝ }
-    ensures digits { λ _. ⌜ DigitsOf n (decimal n) ⌝ }
-    ensures only { λ _. ⌜ ((bs : List ℕ) → DigitsOf n bs → bs ≡ decimal n) ⌝ }
+    ensures the_digits_stand_behind { λ r. ⌜ vec-items (now (out .exit)) ≡ cond (isOk r) (vec-items (now (out .entry)) ++ decimal n) (vec-items (now (out .entry))) ⌝ }
+    ensures the_digits_are_read_back { λ _. ⌜ DigitsOf n (decimal n) ⌝ }
+    ensures no_other_digits_are { λ _. ⌜ ((bs : List ℕ) → DigitsOf n bs → bs ≡ decimal n) ⌝ }
 {
     let mut digits = [b'0'; MOST];
     let mut at = MOST;

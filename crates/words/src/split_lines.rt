@@ -18,9 +18,9 @@ pub struct Lines<'a> {
 impl<'a> Lines<'a> {
     // All lines of the text are still to be read.
     pub fn new(text: &'a [u8]) -> Lines<'a>
-        ensures rest { λ r. ⌜ now (r .rest) ≡ now (text .entry) ⌝ }
-        ensures lined { λ _. ⌜ Lined (linesOf (now (text .entry))) (now (text .entry)) ⌝ }
-        ensures only { λ _. ⌜ ((ls : List (List ℕ)) → Lined ls (now (text .entry)) → ls ≡ linesOf (now (text .entry))) ⌝ }
+        ensures all_bytes_are_ahead { λ r. ⌜ now (r .rest) ≡ now (text .entry) ⌝ }
+        ensures the_lines_give_the_text_back { λ _. ⌜ Lined (linesOf (now (text .entry))) (now (text .entry)) ⌝ }
+        ensures no_other_lines_do { λ _. ⌜ ((ls : List (List ℕ)) → Lined ls (now (text .entry)) → ls ≡ linesOf (now (text .entry))) ⌝ }
     {
         Lines { rest: text }
     }

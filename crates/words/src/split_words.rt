@@ -18,9 +18,9 @@ pub struct Words<'a> {
 impl<'a> Words<'a> {
     // All words of the line are still to be read.
     pub fn new(line: &'a [u8]) -> Words<'a>
-        ensures rest { λ r. ⌜ now (r .rest) ≡ now (line .entry) ⌝ }
-        ensures parted { λ _. ⌜ Parted (wordsOf (now (line .entry))) (now (line .entry)) ⌝ }
-        ensures only { λ _. ⌜ ((ws : List (List ℕ)) → Parted ws (now (line .entry)) → ws ≡ wordsOf (now (line .entry))) ⌝ }
+        ensures all_bytes_are_ahead { λ r. ⌜ now (r .rest) ≡ now (line .entry) ⌝ }
+        ensures the_words_part_the_line { λ _. ⌜ Parted (wordsOf (now (line .entry))) (now (line .entry)) ⌝ }
+        ensures no_other_words_do { λ _. ⌜ ((ws : List (List ℕ)) → Parted ws (now (line .entry)) → ws ≡ wordsOf (now (line .entry))) ⌝ }
     {
         Words { rest: line }
     }

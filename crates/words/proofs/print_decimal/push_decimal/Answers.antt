@@ -22,7 +22,7 @@ pub returns : need.returns
 returns c =
     let all = digit-last (c .args .n) (c .loop-left .left) (c .loop-left .at) (c .loop-left .digits) (c .fits .n .fits) (c .loop-left .inv) (c .loop-left-test .left) in
     record {
-      items = rw all at (c .extend-from-slice .ensures .items);
-      digits = digits-of (c .args .n) (c .fits .n .fits);
-      only = only (c .args .n);
+      the-digits-stand-behind = rw all at (c .extend-from-slice .ensures .items);
+      the-digits-are-read-back = digits-of (c .args .n) (c .fits .n .fits);
+      no-other-digits-are = only (c .args .n);
     }
