@@ -3,7 +3,6 @@ ghost use mathlib.Core.Path.{_≡_};
 ghost use Rattle.std.specs.Of.Vec.{vec-items};
 ghost use Rattle.std.specs.Vec.{made};
 ghost use Rattle.script.specs.Asked.{asked};
-ghost use Rattle.words.specs.Words.{wordsOf};
 ghost use Rattle.desk.specs.Answering.{answered};
 ghost use Rattle.desk.specs.Performing.{deskOf};
 ghost use Rattle.desk.specs.Texts.{Adds};
@@ -25,9 +24,9 @@ impl Desk {
         line: &[u8],
         out: &mut Vec<u8>,
     ) -> Result<bool, AllocError>
-        ensures understood { λ r. ⌜ made r (λ b. b ≡ answered (deskOf (now (self .entry))) number (asked (wordsOf (now (line .entry)))) .understood) ⌝ }
-        ensures text { λ r. ⌜ made r (λ _. Adds (answered (deskOf (now (self .entry))) number (asked (wordsOf (now (line .entry)))) .text) (vec-items (now (out .entry))) (vec-items (now (out .exit)))) ⌝ }
-        ensures after { λ r. ⌜ made r (λ _. deskOf (now (self .exit)) ≡ answered (deskOf (now (self .entry))) number (asked (wordsOf (now (line .entry)))) .after) ⌝ }
+        ensures understood { λ r. ⌜ made r (λ b. b ≡ answered (deskOf (now (self .entry))) number (asked (now (line .entry))) .understood) ⌝ }
+        ensures text { λ r. ⌜ made r (λ _. Adds (answered (deskOf (now (self .entry))) number (asked (now (line .entry))) .text) (vec-items (now (out .entry))) (vec-items (now (out .exit)))) ⌝ }
+        ensures after { λ r. ⌜ made r (λ _. deskOf (now (self .exit)) ≡ answered (deskOf (now (self .entry))) number (asked (now (line .entry))) .after) ⌝ }
     {
         match read_line(heap, line)? {
             Line::PassedOver => Ok(true),

@@ -1,12 +1,18 @@
 // The calls of a script. A call that comes at the wrong time has no reply, and changes nothing.
 ghost use mathlib.Core.Path.{_≡_};
-ghost use Rattle.desk.specs.Performing.{Done, deskOf, numbered, performed};
-ghost use Rattle.script.specs.Asked.{action, callOf, opening, test, vocabulary};
+ghost use Rattle.std.specs.Options.{mapped};
+ghost use Rattle.desk.specs.Replies.{saidBy};
+ghost use Rattle.desk.specs.Performing.{Done, deskOf, numbered, performed, readSaid};
+ghost use Rattle.script.specs.Asked.{action, callOf, opening, reading, test, vocabulary};
 use crate::desk::Desk;
 use crate::joining::vocabulary_of;
 use crate::reply::Reply;
 use book::Book;
+use grammar::RefusalFromRule;
+use grammar::RuleFault;
 use refusals::Refusal;
+use rules::Rule;
+use rules::faulty_sign;
 use script::Command;
 use script::Part;
 use sheet::NameFault;
@@ -19,8 +25,8 @@ use vocabulary::RefusalFromVocabulary;
 use vocabulary::Vocabulary;
 
 // The answer to naming.
-fn naming_reply(named: Result<u8, NameFault>) -> Reply
-    ensures { λ r. ⌜ r ≡ numbered named ⌝ }
+fn naming_reply<'a>(named: Result<u8, NameFault>) -> Reply<'a>
+    ensures { λ r. ⌜ saidBy r ≡ numbered named ⌝ }
 {
     match named {
         Ok(number) => Reply::Number(number),
@@ -28,10 +34,40 @@ fn naming_reply(named: Result<u8, NameFault>) -> Reply
     }
 }
 
+// The answer to reading a rule's text. Refusals 6 to 12 are for a sign.
+fn reading_reply<'a>(text: &'a [u8], read: Result<Rule, RuleFault>) -> Reply<'a>
+    ensures { λ r. ⌜ saidBy r ≡ readSaid (now (text .entry)) read ⌝ }
+{
+    match read {
+        Ok(rule) => Reply::Read {
+            nodes: rule.nodes,
+            actions: rule.actions,
+        },
+        Err(fault) => {
+            let refusal = Refusal::from(fault);
+            if refusal.number >= 6 && refusal.number <= 12 {
+                Reply::RefusedOn(refusal, faulty_sign(text, fault))
+            } else {
+                Reply::Refused(refusal)
+            }
+        }
+    }
+}
+
 impl Desk {
+    // Reads a rule's text by the names of the book.
+    fn read<'a>(&self, text: &'a [u8]) -> Option<Reply<'a>>
+        ensures { λ r. ⌜ mapped saidBy r ≡ performed (deskOf (now (self .entry))) (reading (now (text .entry))) .reply ⌝ }
+    {
+        match self {
+            Desk::Opened(book) => Some(reading_reply(text, book.read(text))),
+            _ => None,
+        }
+    }
+
     // Names the next test of the sheet.
-    fn name_test(&mut self, name: &[u8]) -> Option<Reply>
-        ensures answer { λ r. ⌜ r ≡ performed (deskOf (now (self .entry))) (test (now (name .entry))) .reply ⌝ }
+    fn name_test<'a>(&mut self, name: &[u8]) -> Option<Reply<'a>>
+        ensures answer { λ r. ⌜ mapped saidBy r ≡ performed (deskOf (now (self .entry))) (test (now (name .entry))) .reply ⌝ }
         ensures after { λ _. ⌜ deskOf (now (self .exit)) ≡ performed (deskOf (now (self .entry))) (test (now (name .entry))) .after ⌝ }
     {
         match self {
@@ -41,8 +77,8 @@ impl Desk {
     }
 
     // Names the next action of the sheet.
-    fn name_action(&mut self, name: &[u8]) -> Option<Reply>
-        ensures answer { λ r. ⌜ r ≡ performed (deskOf (now (self .entry))) (action (now (name .entry))) .reply ⌝ }
+    fn name_action<'a>(&mut self, name: &[u8]) -> Option<Reply<'a>>
+        ensures answer { λ r. ⌜ mapped saidBy r ≡ performed (deskOf (now (self .entry))) (action (now (name .entry))) .reply ⌝ }
         ensures after { λ _. ⌜ deskOf (now (self .exit)) ≡ performed (deskOf (now (self .entry))) (action (now (name .entry))) .after ⌝ }
     {
         match self {
@@ -52,8 +88,8 @@ impl Desk {
     }
 
     // Turns the sheet into a book.
-    fn open(&mut self) -> Option<Reply>
-        ensures answer { λ r. ⌜ r ≡ performed (deskOf (now (self .entry))) opening .reply ⌝ }
+    fn open<'a>(&mut self) -> Option<Reply<'a>>
+        ensures answer { λ r. ⌜ mapped saidBy r ≡ performed (deskOf (now (self .entry))) opening .reply ⌝ }
         ensures after { λ _. ⌜ deskOf (now (self .exit)) ≡ performed (deskOf (now (self .entry))) opening .after ⌝ }
     {
         match std::mem::replace(self, Desk::Empty) {
@@ -74,7 +110,7 @@ impl Desk {
     }
 
     // Begins a sheet from the parts of a vocabulary.
-    fn begin(&mut self, heap: Global, parts: &[Part]) -> Result<Option<Reply>, AllocError>
+    fn begin<'a>(&mut self, heap: Global, parts: &[Part]) -> Result<Option<Reply<'a>>, AllocError>
         ensures { λ r. ⌜ Done (deskOf (now (self .entry))) (vocabulary (now (parts .entry))) r (deskOf (now (self .exit))) ⌝ }
     {
         if let Desk::Empty = self {
@@ -94,18 +130,19 @@ impl Desk {
     }
 
     // Carries a call out.
-    pub fn perform(
+    pub fn perform<'a>(
         &mut self,
         heap: Global,
-        command: &Command<'_>,
-    ) -> Result<Option<Reply>, AllocError>
+        command: &Command<'a>,
+    ) -> Result<Option<Reply<'a>>, AllocError>
         ensures { λ r. ⌜ Done (deskOf (now (self .entry))) (callOf (now (command .entry))) r (deskOf (now (self .exit))) ⌝ }
     {
         match command {
-            Command::Vocabulary(parts) => self.begin(heap, parts),
-            Command::Test(name) => Ok(self.name_test(name)),
-            Command::Action(name) => Ok(self.name_action(name)),
-            Command::Open => Ok(self.open()),
+            Command::Vocabulary(parts) => return self.begin(heap, parts),
+            Command::Test(name) => return Ok(self.name_test(name)),
+            Command::Action(name) => return Ok(self.name_action(name)),
+            Command::Open => return Ok(self.open()),
+            Command::Read(text) => return Ok(self.read(text)),
         }
     }
 }

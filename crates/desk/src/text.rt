@@ -1,9 +1,11 @@
 // Answers as text, put behind what a buffer holds. Without memory for all of it, what was put there so far is worth nothing.
 ghost use mathlib.Core.Path.{_≡_};
 ghost use Rattle.std.specs.Of.Vec.{vec-items};
+ghost use Rattle.std.specs.Options.{mapped};
 ghost use Rattle.std.specs.Vec.{made};
 ghost use Rattle.std.specs.Written.{decimal};
 ghost use Rattle.script.specs.Asked.{callOf};
+ghost use Rattle.desk.specs.Replies.{saidBy};
 ghost use Rattle.desk.specs.Texts.{Adds, answerText, heading, layerWord, notUnderstood, refusalText, replyText};
 use crate::reply::Reply;
 use refusals::Layer;
@@ -35,6 +37,9 @@ fn layer_word(layer: Layer) -> &'static [u8]
     match layer {
         Layer::Vocabulary => b"vocabulary",
         Layer::Names => b"names",
+        Layer::Signs => b"signs",
+        Layer::Rule => b"rule",
+        Layer::Book => b"book",
     }
 }
 
@@ -52,8 +57,8 @@ fn put_refusal(out: &mut Vec<u8>, refusal: Refusal) -> Result<(), AllocError>
 }
 
 // What stands behind the call in an answer.
-fn put_reply(out: &mut Vec<u8>, reply: Reply) -> Result<(), AllocError>
-    ensures { λ r. ⌜ made r (λ _. Adds (replyText reply) (vec-items (now (out .entry))) (vec-items (now (out .exit)))) ⌝ }
+fn put_reply(out: &mut Vec<u8>, reply: Reply<'_>) -> Result<(), AllocError>
+    ensures { λ r. ⌜ made r (λ _. Adds (replyText (saidBy (reply .entry))) (vec-items (now (out .entry))) (vec-items (now (out .exit)))) ⌝ }
 {
     match reply {
         Reply::Vocabulary { situations, tests } => {
@@ -72,7 +77,19 @@ fn put_reply(out: &mut Vec<u8>, reply: Reply) -> Result<(), AllocError>
             put_number(out, actions as u64)?;
             put(out, b" actions named")?;
         }
+        Reply::Read { nodes, actions } => {
+            put_number(out, nodes as u64)?;
+            put(out, b" nodes, ")?;
+            put_number(out, actions as u64)?;
+            put(out, b" actions")?;
+        }
         Reply::Refused(refusal) => put_refusal(out, refusal)?,
+        Reply::RefusedOn(refusal, faulty) => {
+            put_refusal(out, refusal)?;
+            put(out, b" on \"")?;
+            put(out, faulty)?;
+            put(out, b"\"")?;
+        }
     }
     Ok(())
 }
@@ -92,6 +109,7 @@ fn put_heading(out: &mut Vec<u8>, command: &Command<'_>) -> Result<(), AllocErro
             put(out, name)?;
         }
         Command::Open => put(out, b"open")?,
+        Command::Read(_) => put(out, b"read")?,
     }
     Ok(())
 }
@@ -111,9 +129,9 @@ pub fn put_answer(
     out: &mut Vec<u8>,
     line: u64,
     command: &Command<'_>,
-    reply: Option<Reply>,
+    reply: Option<Reply<'_>>,
 ) -> Result<(), AllocError>
-    ensures { λ r. ⌜ made r (λ _. Adds (answerText line (callOf (now (command .entry))) reply) (vec-items (now (out .entry))) (vec-items (now (out .exit)))) ⌝ }
+    ensures { λ r. ⌜ made r (λ _. Adds (answerText line (callOf (now (command .entry))) (mapped saidBy (reply .entry))) (vec-items (now (out .entry))) (vec-items (now (out .exit)))) ⌝ }
 {
     let Some(reply) = reply else {
         return put_not_understood(out, line);

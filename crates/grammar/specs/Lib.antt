@@ -1,5 +1,5 @@
--- What the contracts of the grammar speak of.
 pub mod Derivations
+pub mod Faults
 pub mod Reading
 pub mod Theorems
 pub mod Worked

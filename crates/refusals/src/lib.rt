@@ -6,6 +6,9 @@
 pub enum Layer {
     Vocabulary,
     Names,
+    Signs,
+    Rule,
+    Book,
 }
 
 // A refusal with its number, which no other refusal has, and its place in what was given.

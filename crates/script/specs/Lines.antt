@@ -13,7 +13,7 @@ use Rattle.words.specs.Number.{numberOf}
 use Rattle.script.specs.declared.command.Part.{Part}
 use Rattle.script.specs.declared.command.Part.the-variants.{Flags, Scale}
 use Rattle.script.specs.declared.keyword.Keyword.{Keyword}
-use Rattle.script.specs.declared.keyword.Keyword.the-variants.{Vocabulary, Test, Action, Open}
+use Rattle.script.specs.declared.keyword.Keyword.the-variants.{Vocabulary, Test, Action, Open, Read}
 
 -- The words that a line can begin with.
 abbrev pub keywordOf : List ℕ → Option Keyword
@@ -21,7 +21,8 @@ keywordOf word =
     cond (sameBytes word (codes "vocabulary")) (Some Vocabulary)
     (cond (sameBytes word (codes "test")) (Some Test)
     (cond (sameBytes word (codes "action")) (Some Action)
-    (cond (sameBytes word (codes "open")) (Some Open) None)))
+    (cond (sameBytes word (codes "open")) (Some Open)
+    (cond (sameBytes word (codes "read")) (Some Read) None))))
 
 -- The kinds of vocabulary that are made of a number.
 abbrev pub kindOf : List ℕ → ℕ → Option Part

@@ -1,4 +1,5 @@
-// The calls that a script can make, as a line asks for them. A name is the part of the line that it was read from.
+// The calls that a script can make, as a line asks for them. A name or a text is the part of the
+// line that it was read from.
 
 // One part of a vocabulary, with the number that it is to be made of.
 #[derive(Clone, Copy)]
@@ -18,6 +19,8 @@ pub enum Command<'a> {
     Action(&'a [u8]),
     // Turn the sheet into a book.
     Open,
+    // Read a rule's text.
+    Read(&'a [u8]),
 }
 
 // A line of a script.

@@ -11,6 +11,7 @@ pub enum Keyword {
     Test,
     Action,
     Open,
+    Read,
 }
 
 // Whether the word is this text.
@@ -32,6 +33,8 @@ pub fn read_keyword(word: &[u8]) -> Option<Keyword>
         Some(Keyword::Action)
     } else if is(word, b"open") {
         Some(Keyword::Open)
+    } else if is(word, b"read") {
+        Some(Keyword::Read)
     } else {
         None
     }

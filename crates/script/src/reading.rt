@@ -17,6 +17,7 @@ use std::alloc::AllocError;
 use std::alloc::Global;
 use words::Words;
 use words::WordsIterator;
+use words::text_behind;
 
 // Whether a line that begins with this word is a comment.
 fn is_comment(first: &[u8]) -> bool
@@ -66,13 +67,13 @@ fn no_word(rest: &[u8]) -> bool
     }
 }
 
-// The call that a first word asks for, of the words behind it; none where they do not fit it.
+// The call that a first word asks for, of the bytes behind it; none where they do not fit it.
 fn command<'a>(
     heap: Global,
     keyword: Keyword,
     rest: &'a [u8],
 ) -> Result<Option<Command<'a>>, AllocError>
-    ensures { λ r. ⌜ made r (λ c. mapped callOf c ≡ callFrom keyword (wordsOf (now (rest .entry)))) ⌝ }
+    ensures { λ r. ⌜ made r (λ c. mapped callOf c ≡ callFrom keyword (now (rest .entry))) ⌝ }
 {
     match keyword {
         Keyword::Vocabulary => {
@@ -102,12 +103,18 @@ fn command<'a>(
             }
             Ok(Some(Command::Open))
         }
+        Keyword::Read => {
+            let Some(text) = text_behind(rest) else {
+                return Ok(None);
+            };
+            Ok(Some(Command::Read(text)))
+        }
     }
 }
 
 // What the line asks for.
 pub fn read_line<'a>(heap: Global, line: &'a [u8]) -> Result<Line<'a>, AllocError>
-    ensures { λ r. ⌜ made r (λ l. lineOf l ≡ asked (wordsOf (now (line .entry)))) ⌝ }
+    ensures { λ r. ⌜ made r (λ l. lineOf l ≡ asked (now (line .entry))) ⌝ }
 {
     let mut words = Words::new(line);
     let Some(first) = words.next() else {

@@ -26,3 +26,21 @@ returns-in-Continue-put-5 c =
     (before (c .in-Continue-put-number-5 .ensures tt)
     (c .in-Continue-put-5 .ensures tt))) in
     search needs
+
+pub returns-in-Continue-put-7 : need.returns-in-Continue-put-7
+returns-in-Continue-put-7 c =
+    let written =
+    before (c .in-Continue-put-number-6 .ensures tt)
+    (before (c .in-Continue-put-6 .ensures tt)
+    (before (c .in-Continue-put-number-7 .ensures tt)
+    (c .in-Continue-put-7 .ensures tt))) in
+    search needs
+
+pub returns-in-Continue-put-10 : need.returns-in-Continue-put-10
+returns-in-Continue-put-10 c =
+    let written =
+    before (c .in-Continue-put-refusal-2 .ensures tt)
+    (before (c .in-Continue-put-8 .ensures tt)
+    (before (c .in-Continue-put-9 .ensures tt)
+    (c .in-Continue-put-10 .ensures tt))) in
+    search needs
