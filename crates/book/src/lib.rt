@@ -1,5 +1,8 @@
 // The book that a sheet becomes when it is opened. So far it is empty: it reads rules, tells which runs they allow, and
 // compares them.
+
+#![tactic(auto)]
+
 ghost use Rattle.std.specs.Prelude.{◌≡◌, length, IfOk};
 ghost use Rattle.book.specs.Allowing.{AllowedExactly, allows_in};
 ghost use Rattle.book.specs.Books.{book_of, means_in, opened, read_in};

@@ -1,4 +1,7 @@
 // Charts: flows drawn by hand, line by line.
+
+#![tactic(auto)]
+
 mod arrow;
 mod chart;
 mod fault;

@@ -1,4 +1,7 @@
 // A script at work: what has been laid out so far, the calls on it, and the answers as text.
+
+#![tactic(auto)]
+
 mod answering;
 mod desk;
 mod joining;
@@ -8,3 +11,6 @@ mod text;
 
 pub use desk::Desk;
 pub use reply::Reply;
+
+#[cfg(test)]
+mod tests;

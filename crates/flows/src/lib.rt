@@ -1,4 +1,7 @@
 // Flows: what the walk goes over, whatever it is made of.
+
+#![tactic(auto)]
+
 ghost use Rattle.std.specs.Prelude.{◌≡◌};
 ghost use Rattle.runs.specs.Flows.{FlowMeaning, Lawful};
 

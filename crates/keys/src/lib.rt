@@ -1,5 +1,8 @@
 // Keys and the one list that finds them again: what it is for two keys to be the same, what it is for an element
 // to bear a key, and the earliest element of a list that bears a given one.
+
+#![tactic(auto)]
+
 ghost use Rattle.std.specs.Prelude.{◌≡◌, Bool};
 ghost use Rattle.keys.specs.Keys.{Earliest, SameLaws, first_at};
 
@@ -28,8 +31,8 @@ pub trait Keyed {
 
 // The earliest place of an element whose key is the same as `key`; none where no element's is.
 pub fn find<E: Keyed>(list: &[E], key: &E::By) -> Option<usize>
-    ensures value { result ≡ first_at (λ x. By-as-Key.same (bears x) key.now) list.now }
-    ensures earliest { Earliest (λ x. By-as-Key.same (bears x) key.now) list.now result }
+    ensures value { result ≡ first_at (λ x. E.By.same (E.bears x) key.now) list.now }
+    ensures earliest { Earliest (λ x. E.By.same (E.bears x) key.now) list.now result }
 {
     for i in 0..list.len() {
         if list[i].key().is_same(key) {

@@ -1,4 +1,7 @@
 // Masks: numbers of 64 bits read as sets of situations or of places.
+
+#![tactic(auto)]
+
 ghost use Rattle.std.specs.Prelude.{◌≡◌};
 ghost use Rattle.masks.specs.Bits.{bit};
 

@@ -1,4 +1,7 @@
 // The flow of a rule's places: prepared once from the nodes of a rule, and then asked code by code.
+
+#![tactic(auto)]
+
 mod answering;
 mod firsts;
 mod flow;

@@ -1,6 +1,8 @@
 // How a refusal is told: which layer refuses, under which number, and at which place. Every layer's own faults turn
 // into this, so that whoever asked is told in one form.
 
+#![tactic(auto)]
+
 // The layer that refuses.
 #[derive(Clone, Copy, PartialEq, Eq, Debug)]
 pub enum Layer {

@@ -1,5 +1,8 @@
 // The program: reads a script of calls, from the file that its argument names or else from standard input, and prints
 // the answer of each line as it comes to it.
+
+#![tactic(auto)]
+
 use anyhow::anyhow;
 use desk::Desk;
 use std::io::{Read, Write};

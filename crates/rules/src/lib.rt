@@ -1,5 +1,8 @@
 // The rule reader: it reads the text of a rule sign by sign, judges each sign fully before the next is read, and lays
 // the rule out in nodes that the caller lends.
+
+#![tactic(auto)]
+
 mod builders;
 mod faulty;
 mod judge;
@@ -14,3 +17,6 @@ pub use faulty::faulty_sign;
 pub use node::Node;
 pub use read::read_rule;
 pub use rule::Rule;
+
+#[cfg(test)]
+mod tests;

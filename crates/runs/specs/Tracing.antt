@@ -1,5 +1,5 @@
 -- The run that tells two flows apart, read off the walk's list.
-use Rattle.std.specs.Prelude.{◌≡◌, ℕ, zero, suc, ◌+◌, ◌/◌, ◌%◌, ◌<◌, Bool, true, false, List, [], ◌∷◌, ◌++◌, ◌==◌, slice_index_or}
+use Rattle.std.specs.Prelude.{◌≡◌, ℕ, zero, suc, ◌/◌, ◌%◌, ◌<◌, Bool, true, false, List, [], ◌∷◌, ◌++◌, ◌==◌, slice_index_or}
 use Rattle.runs.specs.Flows.{FlowMeaning, allows}
 use Rattle.runs.specs.Runs.{Move, Run, Within, actions_of}
 use Rattle.runs.specs.Walks.{Listed, at, list_after, no_listed}

@@ -1,4 +1,7 @@
 // Runs and what flows mean: definitions, and theorems on them as the contracts of functions.
+
+#![tactic(auto)]
+
 mod theorems;
 
 pub use theorems::{

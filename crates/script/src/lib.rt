@@ -1,4 +1,7 @@
 // What a line of a script asks for.
+
+#![tactic(auto)]
+
 mod command;
 mod keyword;
 mod reading;

@@ -1,8 +1,7 @@
 -- The names that a list of names of the code holds.
-use Rattle.std.specs.Prelude.{List, map, vec_items}
+use Rattle.std.specs.Prelude.{map, vec_items}
 use Rattle.sheet.specs.Naming.{NameList}
 use Rattle.sheet.specs.Spelling.{bytes_of}
-use Rattle.sheet.specs.declared.name.Name.{Name}
 use Rattle.sheet.specs.declared.names.Names.{Names}
 
 -- Each name by its bytes.

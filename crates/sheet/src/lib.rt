@@ -1,4 +1,7 @@
 // The sheet on which an office lays out its vocabulary: names for tests and for actions.
+
+#![tactic(auto)]
+
 mod fault;
 mod laying;
 mod name;
@@ -13,3 +16,6 @@ pub use name::Name;
 pub use named::Named;
 pub use names::Names;
 pub use sheet::Sheet;
+
+#[cfg(test)]
+mod tests;

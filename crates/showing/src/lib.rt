@@ -1,6 +1,9 @@
 // What judge found, shown line by line: the pairs that it put down, or the run on which two flows part.
+
+#![tactic(auto)]
+
 mod pairs;
-mod runs;
+mod told_runs;
 
 pub use pairs::put_pairs;
-pub use runs::put_run;
+pub use told_runs::put_run;

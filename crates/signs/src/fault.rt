@@ -56,3 +56,25 @@ pub fn faulty<'a>(text: &'a [u8], fault: SignFault) -> &'a [u8]
         SignFault::NameTooLong(place) => inner_part(text, place),
     }
 }
+
+#[cfg(test)]
+mod tests {
+    use super::{SignFault, faulty};
+
+    #[test]
+    fn numbers_and_places(rt: HostRuntime) {
+        assert!(rt; SignFault::TextTooLong.number() == 5 && SignFault::TextTooLong.place() == 4096);
+        assert!(rt; SignFault::StrayByte(3).number() == 6 && SignFault::StrayByte(3).place() == 3);
+        assert!(rt;
+            SignFault::NameTooLong(9).number() == 7 && SignFault::NameTooLong(9).place() == 9
+        );
+    }
+
+    #[test]
+    fn the_whole_faulty_sign_is_shown(rt: HostRuntime) {
+        assert!(rt; matches!(faulty(b"send $", SignFault::StrayByte(5)), b"$"));
+        assert!(rt; faulty(b" thirteenbytes;", SignFault::NameTooLong(1)).len() == 13);
+        assert!(rt; matches!(faulty(b"send", SignFault::StrayByte(4)), b""));
+        assert!(rt; matches!(faulty(b"send", SignFault::TextTooLong), b""));
+    }
+}

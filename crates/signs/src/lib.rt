@@ -1,5 +1,8 @@
 // The text of a rule, read sign by sign: what a name is, what the signs are, and where a text is refused. Nothing here
 // knows a vocabulary.
+
+#![tactic(auto)]
+
 mod fault;
 mod limits;
 mod names;

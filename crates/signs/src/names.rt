@@ -51,3 +51,30 @@ pub fn is_name(bytes: &[u8]) -> bool
         _ => is_spelled(bytes) && bytes.len() <= NAME_BYTES,
     }
 }
+
+#[cfg(test)]
+mod tests {
+    use super::is_name;
+
+    #[test]
+    fn names_at_their_limits(rt: HostRuntime) {
+        assert!(rt; is_name(b"a"));
+        assert!(rt; is_name(b"Locked_2"));
+        assert!(rt; is_name(b"twelve_bytes"));
+        assert!(rt; !is_name(b"thirteenbytes"));
+        assert!(rt; !is_name(b""));
+        assert!(rt; !is_name(b"2nd"));
+        assert!(rt; !is_name(b"_a"));
+        assert!(rt; !is_name(b"a-b"));
+        assert!(rt; !is_name(b"\xc3\xa4"));
+    }
+
+    #[test]
+    fn the_two_words_are_no_names(rt: HostRuntime) {
+        assert!(rt; !is_name(b"skip"));
+        assert!(rt; !is_name(b"stop"));
+        assert!(rt; is_name(b"Skip"));
+        assert!(rt; is_name(b"skips"));
+        assert!(rt; is_name(b"sto"));
+    }
+}

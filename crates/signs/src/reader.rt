@@ -95,3 +95,78 @@ fn word_sign<'a>(word: &'a [u8], at: usize) -> Sign<'a>
         _ => Sign::Name(word, at),
     }
 }
+
+#[cfg(test)]
+mod tests {
+    use super::SignReader;
+    use crate::fault::SignFault;
+    use crate::sign::Sign;
+    use std::test::Fail;
+
+    #[test]
+    fn words_are_as_long_as_can_be(rt: HostRuntime) -> Result<(), Fail> {
+        let mut signs = SignReader::new(b"skip|stops")?;
+        assert!(rt; matches!(signs.next()?, Some(Sign::Skip(0))));
+        assert!(rt; matches!(signs.next()?, Some(Sign::Or(4))));
+        assert!(rt; matches!(signs.next()?, Some(Sign::Name(b"stops", 5))));
+        assert!(rt; matches!(signs.next()?, None));
+        Ok(())
+    }
+
+    #[test]
+    fn a_byte_of_no_sign_is_refused_each_time(rt: HostRuntime) -> Result<(), Fail> {
+        let mut signs = SignReader::new(b"send $")?;
+        assert!(rt; matches!(signs.next()?, Some(Sign::Name(_, 0))));
+        assert!(rt; matches!(signs.next(), Err(SignFault::StrayByte(5))));
+        assert!(rt; matches!(signs.next(), Err(SignFault::StrayByte(5))));
+        Ok(())
+    }
+
+    #[test]
+    fn bytes_at_the_edges_are_refused(rt: HostRuntime) -> Result<(), Fail> {
+        assert!(rt; matches!(SignReader::new(&[0])?.next(), Err(SignFault::StrayByte(0))));
+        assert!(rt;
+            matches!(
+                SignReader::new(&[127])?.next(),
+                Err(SignFault::StrayByte(0))
+            )
+        );
+        assert!(rt;
+            matches!(
+                SignReader::new(&[128])?.next(),
+                Err(SignFault::StrayByte(0))
+            )
+        );
+        assert!(rt;
+            matches!(
+                SignReader::new(&[255])?.next(),
+                Err(SignFault::StrayByte(0))
+            )
+        );
+        Ok(())
+    }
+
+    #[test]
+    fn names_have_at_most_twelve_bytes(rt: HostRuntime) -> Result<(), Fail> {
+        assert!(rt;
+            matches!(
+                SignReader::new(b"twelve_bytes")?.next()?,
+                Some(Sign::Name(_, 0))
+            )
+        );
+        assert!(rt;
+            matches!(
+                SignReader::new(b" thirteenbytes")?.next(),
+                Err(SignFault::NameTooLong(1))
+            )
+        );
+        Ok(())
+    }
+
+    #[test]
+    fn texts_have_at_most_4096_bytes(rt: HostRuntime) -> Result<(), Fail> {
+        assert!(rt; matches!(SignReader::new(&[b' '; 4096])?.next()?, None));
+        assert!(rt; matches!(SignReader::new(&[b' '; 4097]), Err(SignFault::TextTooLong)));
+        Ok(())
+    }
+}

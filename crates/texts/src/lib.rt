@@ -1,4 +1,7 @@
 // Texts, put behind what a buffer holds. Without memory for all of a text, what was put there of it is worth nothing.
+
+#![tactic(auto)]
+
 ghost use Rattle.std.specs.Prelude.{decimal, OnOk};
 ghost use Rattle.texts.specs.Adds.{Adds};
 

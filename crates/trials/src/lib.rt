@@ -1,22 +1,13 @@
 // The public calls on examples and at their limits, a module for each layer. They stand apart from the layers so that
 // proving a trial does not prove its layer again.
+
+#![tactic(auto)]
+
 #[cfg(test)]
-mod charts;
+mod charts_tried;
 #[cfg(test)]
-mod desk;
+mod flows_tried;
 #[cfg(test)]
-mod flows;
+mod places_tried;
 #[cfg(test)]
-mod places;
-#[cfg(test)]
-mod rules;
-#[cfg(test)]
-mod sheet;
-#[cfg(test)]
-mod signs;
-#[cfg(test)]
-mod vocabulary;
-#[cfg(test)]
-mod walk;
-#[cfg(test)]
-mod words;
+mod walk_tried;

@@ -1,6 +1,8 @@
 // Vocabularies: numbered situations, numbered tests, and which test holds in which situation.
 // The trait stands here; each make of vocabulary has a module of its own.
 
+#![tactic(auto)]
+
 ghost use Rattle.std.specs.Prelude.{◌≡◌};
 ghost use Rattle.vocabulary.specs.Meaning.{VocabularyMeaning, Lawful};
 
@@ -15,6 +17,9 @@ pub use fault::VocabularyFault;
 pub use flags::Flags;
 pub use pair::Pair;
 pub use scale::Scale;
+
+#[cfg(test)]
+mod tests;
 
 // Some situations and some tests, each numbered from 0, and a yes or no for each of their pairs.
 pub trait Vocabulary {

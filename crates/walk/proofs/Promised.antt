@@ -1,5 +1,5 @@
 -- What the answers of judge and check say of runs: from the theorems on the walk.
-use Rattle.std.proofs.Common.{◌≡◌, ℕ, ◌+◌, ◌-◌, ◌≤◌, Bool, true, false, cond, not, ◌&&◌, eqb, ltb, List, [], ◌∷◌, ◌++◌, map, length, take, drop, Ok, Err, Result, sym, refl, ap, ◌∙◌, subst, arith}
+use Rattle.std.proofs.Common.{◌≡◌, ℕ, ◌-◌, ◌≤◌, Bool, true, false, cond, ◌&&◌, eqb, ltb, List, [], ◌∷◌, ◌++◌, map, length, take, drop, Ok, Err, Result, sym, refl, ap, ◌∙◌, subst, arith}
 use Rattle.std.proofs.lemmas.List.{length-map, length-replicate, take_all, take-append-le}
 use Rattle.std.proofs.lemmas.Bool.{cond-false, cond-true, eqb-true, le-ltb, ltb-false}
 use Rattle.runs.proofs.Closed.{passing_shows_same_runs}
@@ -26,7 +26,7 @@ use Rattle.walk.specs.declared.verdict.Finding.TheVariants.{Passes}
 use Rattle.walk.specs.declared.verdict.Side.{Side}
 use Rattle.walk.specs.declared.verdict.Side.TheVariants.{Left, Right}
 use Rattle.walk.specs.declared.verdict.Verdict.{Verdict}
-use Rattle.walk.specs.declared.verdict.Verdict.TheVariants.{Equal, Different}
+use Rattle.walk.specs.declared.verdict.Verdict.TheVariants.{Different}
 
 -- Flows that are alike have the same counts.
 alike_situations : (f g : FlowMeaning) → alike f g ≡ true → f.situations ≡ g.situations

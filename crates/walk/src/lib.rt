@@ -1,5 +1,8 @@
 // The walk over pairs of codes of two flows: whether they allow the same runs, and whether a list of pairs shows it.
 // Nothing here knows what a flow is made of.
+
+#![tactic(auto)]
+
 mod checking;
 mod clearing;
 mod disagreement;

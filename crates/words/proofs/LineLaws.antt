@@ -2,7 +2,7 @@
 use Rattle.std.proofs.Common.{◌≡◌, ℕ, suc, ◌+◌, ◌<◌, Bool, true, false, cond, eqb, List, [], ◌∷◌, ◌++◌, length, take, drop, Some, None, sym, refl, ap, ◌∙◌, one-add, arith, length-drop}
 use Rattle.std.proofs.lemmas.List.{nil_from_length}
 use Rattle.std.proofs.lemmas.Bool.{eqb-true, not-false}
-use Rattle.std.specs.List.{prefix_len, AllByRecursion as All}
+use Rattle.std.specs.List.{prefix_len, AllByRecursion}
 use Rattle.words.specs.Lines.{in_line, begun, lines_of, fed, completed, OneLine, Lined, LineRead}
 
 -- THE LINES GIVE THE TEXT BACK
@@ -10,15 +10,15 @@ use Rattle.words.specs.Lines.{in_line, begun, lines_of, fed, completed, OneLine,
 feed_is : (b : ℕ) → in_line b ≡ false → 10 ≡ b
 feed_is b e = sym (eqb-true b 10 (not-false (eqb b 10) e))
 
-begun_single : (b : ℕ) (ls : List (List ℕ)) → in_line b ≡ true → All OneLine ls → All OneLine (begun b ls)
+begun_single : (b : ℕ) (ls : List (List ℕ)) → in_line b ≡ true → AllByRecursion OneLine ls → AllByRecursion OneLine (begun b ls)
 begun_single b [] e h = ((e, tt), tt)
 begun_single b (l ∷ ls) e h = ((e, h.0), h.1)
 
-single_if : (b : ℕ) (ls : List (List ℕ)) (t : Bool) → in_line b ≡ t → All OneLine ls → All OneLine (cond t (begun b ls) ([] ∷ ls))
+single_if : (b : ℕ) (ls : List (List ℕ)) (t : Bool) → in_line b ≡ t → AllByRecursion OneLine ls → AllByRecursion OneLine (cond t (begun b ls) ([] ∷ ls))
 single_if b ls true e h = begun_single b ls e h
 single_if b ls false e h = (tt, h)
 
-singles : (text : List ℕ) → All OneLine (lines_of text)
+singles : (text : List ℕ) → AllByRecursion OneLine (lines_of text)
 singles [] = tt
 singles (b ∷ bs) = single_if b (lines_of bs) (in_line b) refl (singles bs)
 
@@ -54,7 +54,7 @@ fed_line : (l rest : List ℕ) → OneLine l → lines_of (l ++ (10 ∷ rest)) �
 fed_line [] rest h = refl
 fed_line (b ∷ l) rest h = rw h.0 (ap (begun b) (fed_line l rest h.1))
 
-fed_lines : (ls : List (List ℕ)) → All OneLine ls → lines_of (fed ls) ≡ ls
+fed_lines : (ls : List (List ℕ)) → AllByRecursion OneLine ls → lines_of (fed ls) ≡ ls
 fed_lines [] h = refl
 fed_lines (l ∷ ls) h = fed_line l (fed ls) h.0 ∙ ap (λ ms. l ∷ ms) (fed_lines ls h.1)
 

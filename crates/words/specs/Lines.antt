@@ -1,7 +1,7 @@
 -- The lines of a text, what they have to do with its bytes, and what it is to read one.
 use Rattle.std.specs.Prelude.{◌≡◌, ℕ, ◌<◌, Bool, true, cond, not, List, [], ◌∷◌, ◌++◌, length, Option, MatchOption, ◌==◌}
 use Rattle.std.specs.Option.{option_to_list}
-use Rattle.std.specs.List.{AllByRecursion as All}
+use Rattle.std.specs.List.{AllByRecursion}
 
 -- A byte belongs to its line unless it is the line feed (10) that ends the line.
 abbrev pub in_line : ℕ → Bool
@@ -30,11 +30,11 @@ completed (b ∷ c ∷ cs) = b ∷ completed (c ∷ cs)
 
 -- A line with no line feed in it.
 abbrev pub OneLine : List ℕ → Type 0
-OneLine line = All (λ b. in_line b ≡ true) line
+OneLine line = AllByRecursion (λ b. in_line b ≡ true) line
 
 -- These are the lines of the text: none has a line feed in it, and with a line feed behind each they are the text again.
 pub record Lined (lines : List (List ℕ)) (text : List ℕ) : Type 0 where
-  pub single : All OneLine lines
+  pub single : AllByRecursion OneLine lines
   pub whole : fed lines ≡ completed text
 
 -- One reading step: the line read is the first of the text's, and the rest, which is shorter, has the others; no line is read just where nothing

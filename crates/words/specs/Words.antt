@@ -1,7 +1,7 @@
 -- The words of a line, what they have to do with its bytes, and what it is to read one.
 use Rattle.std.specs.Prelude.{◌≡◌, ℕ, ◌<◌, Bool, true, cond, not, ◌||◌, List, [], ◌∷◌, ◌++◌, length, drop, Some, None, Option, MatchOption, ◌==◌}
 use Rattle.std.specs.Option.{option_to_list}
-use Rattle.std.specs.List.{prefix_len, AllByRecursion as All}
+use Rattle.std.specs.List.{prefix_len, AllByRecursion}
 
 -- A blank (32) or a tab (9) parts two words, and nothing else does.
 abbrev pub blank : ℕ → Bool
@@ -27,11 +27,11 @@ words_of bs = before (words_from bs).0 (words_from bs).1
 
 -- Only blanks and tabs.
 abbrev pub Blanks : List ℕ → Type 0
-Blanks bs = All (λ b. blank b ≡ true) bs
+Blanks bs = AllByRecursion (λ b. blank b ≡ true) bs
 
 -- No blank and no tab.
 abbrev pub Plain : List ℕ → Type 0
-Plain bs = All (λ b. in_word b ≡ true) bs
+Plain bs = AllByRecursion (λ b. in_word b ≡ true) bs
 
 -- A word ends where the bytes behind it begin with a blank, or are none.
 abbrev pub Ends : List ℕ → Type 0

@@ -1,4 +1,7 @@
 // Worked cases, from the texts of rules and the lines of a chart to the answers of judge and check. Theory alone.
+
+#![tactic(auto)]
+
 ghost use Rattle.worked.specs.Worked.{Worked};
 
 // The worked cases come out as they were worked by hand.

@@ -10,8 +10,8 @@ pub returns : goal.returns
 returns c =
     let book = book_of c.args.self.now in
     let run = c.args.run.now in
-    let told = c.in-ok-flow.ensures in
+    let told = c.in_ok-flow.ensures in
     record {
       answer = ap Ok c.allows.ensures.as_written ∙ ap (asked_of run) told.answer;
-      allows-exactly-the-runs-of-the-rule = asked_exactly book c.args.text.now run (rule_meaning c.in-ok-flow.flow) c.allows.result told.allows-exactly-the-runs-of-the-rule c.allows.ensures.as_written;
+      allows_exactly_the_runs_of_the_rule = asked_exactly book c.args.text.now run (rule_meaning c.in_ok-flow.flow) c.allows.result told.allows_exactly_the_runs_of_the_rule c.allows.ensures.as_written;
     }

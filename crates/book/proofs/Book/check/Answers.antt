@@ -14,12 +14,12 @@ returns c =
     let left = c.args.left.now in
     let right = c.args.right.now in
     let list = map pair_of c.args.list.now in
-    let f = rule_meaning c.in-ok-both.both.left in
-    let g = rule_meaning c.in-ok-both.both.right in
-    let flows = c.in-ok-both.ensures in
-    let told = c.in-ok-check.ensures in
-    let found = c.in-ok-check.field-0 in
+    let f = rule_meaning c.in_ok-both.both.left in
+    let g = rule_meaning c.in_ok-both.both.right in
+    let flows = c.in_ok-both.ensures in
+    let told = c.in_ok-check.ensures in
+    let found = c.in_ok-check.field-0 in
     record {
       answer = ap by_walk told.answer ∙ ap (checked_of list) flows.answer;
-      passing-means-same-runs = passing_texts book left right f g list found flows.flow-of-the-left flows.flow-of-the-right told.a-list-convinces-exactly-when-runs-agree told.answer;
+      passing_means_same_runs = passing_texts book left right f g list found flows.flow_of_the_left flows.flow_of_the_right told.a_list_convinces_exactly_when_runs_agree told.answer;
     }

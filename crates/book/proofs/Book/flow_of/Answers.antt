@@ -8,6 +8,6 @@ returns c =
     let told = c.read.ensures in
     record {
       answer = told.answer;
-      allows-exactly-the-runs-of-the-rule = told.allows-exactly-the-runs-of-the-rule;
-      flow-of-the-text = answered_flow (book_of c.args.self.now) c.args.text.now c.read.result told.answer told.allows-exactly-the-runs-of-the-rule told.granted-exactly-for-rules;
+      allows_exactly_the_runs_of_the_rule = told.allows_exactly_the_runs_of_the_rule;
+      flow_of_the_text = answered_flow (book_of c.args.self.now) c.args.text.now c.read.result told.answer told.allows_exactly_the_runs_of_the_rule told.granted_exactly_for_rules;
     }

@@ -14,15 +14,15 @@ returns c =
     let right = c.args.right.now in
     let table = c.args.table.now in
     let run = c.args.run.now in
-    let f = rule_meaning c.in-ok-both.both.left in
-    let g = rule_meaning c.in-ok-both.both.right in
-    let flows = c.in-ok-both.ensures in
-    let told = c.in-ok-judge.ensures in
-    let verdict = c.in-ok-judge.field-0 in
+    let f = rule_meaning c.in_ok-both.both.left in
+    let g = rule_meaning c.in_ok-both.both.right in
+    let flows = c.in_ok-both.ensures in
+    let told = c.in_ok-judge.ensures in
+    let verdict = c.in_ok-judge.field-0 in
     record {
       answer = ap by_walk told.answer ∙ ap (judged_of (length table) (length run)) flows.answer;
-      table-afterwards = told.table-afterwards ∙ ap (table_by table) flows.answer;
-      run-afterwards = told.run-afterwards ∙ ap (run_by (length table) run) flows.answer;
-      equal_means_same_runs = equal_texts book left right f g _ verdict flows.flow-of-the-left flows.flow-of-the-right flows.answer told.equal_means_same_runs;
-      different_shows_a_shortest_run = parted_texts book left right f g _ verdict flows.flow-of-the-left flows.flow-of-the-right told.different_shows_a_shortest_run;
+      table_afterwards = told.table_afterwards ∙ ap (table_by table) flows.answer;
+      run_afterwards = told.run_afterwards ∙ ap (run_by (length table) run) flows.answer;
+      equal_means_same_runs = equal_texts book left right f g _ verdict flows.flow_of_the_left flows.flow_of_the_right flows.answer told.equal_means_same_runs;
+      different_shows_a_shortest_run = parted_texts book left right f g _ verdict flows.flow_of_the_left flows.flow_of_the_right told.different_shows_a_shortest_run;
     }

@@ -10,9 +10,9 @@ returns c =
     let text = c.args.text.now in
     record {
       answer =
-          c.read-rule.ensures.answer
+          c.read_rule.ensures.answer
           ∙ ap (λ (names : NameList). rule_of 255 (read_text (meaning_of names) text)) c.names.ensures;
-      granted-exactly-for-rules =
+      granted_exactly_for_rules =
           subst (λ (names : NameList). GrantedExactlyForRules (meaning_of names) text) c.names.ensures
-          c.read-rule.ensures.granted-exactly-for-rules;
+          c.read_rule.ensures.granted_exactly_for_rules;
     }

@@ -9,7 +9,7 @@ pub loop-part-preserved : goal.loop-part-preserved
 loop-part-preserved c =
     let i = c.loop-part.part-index in
     let rest = c.in-Some.rest.now in
-    ap (λ all. join_all all (drop (i + 1) rest)) c.join-part-all.ensures
+    ap (λ all. join_all all (drop (i + 1) rest)) c.join_part-all.ensures
     ∙ sym (at_drop_more (join_all (meant copied_meaning c.loop-part.all)) rest i _ c.loop-part-test.true)
     ∙ c.loop-part.invariant
 

@@ -2,16 +2,16 @@ use Rattle.std.proofs.Common.{rules}
 use Rattle.desk.proofs.Behind.{before}
 use Rattle.desk.proofs.text.put_heading.Goals as goal
 
-pub returns-in-ok-put-3 : goal.returns-in-ok-put-3
-returns-in-ok-put-3 c =
+pub returns-in_ok-put-in-Test-2 : goal.returns-in_ok-put-in-Test-2
+returns-in_ok-put-in-Test-2 c =
     let written =
-    before c.in-ok-put-2.ensures
-    c.in-ok-put-3.ensures in
+    before c.in_ok-put-in-Test.ensures
+    c.in_ok-put-in-Test-2.ensures in
     search rules
 
-pub returns-in-ok-put-5 : goal.returns-in-ok-put-5
-returns-in-ok-put-5 c =
+pub returns-in_ok-put-in-Action-2 : goal.returns-in_ok-put-in-Action-2
+returns-in_ok-put-in-Action-2 c =
     let written =
-    before c.in-ok-put-4.ensures
-    c.in-ok-put-5.ensures in
+    before c.in_ok-put-in-Action.ensures
+    c.in_ok-put-in-Action-2.ensures in
     search rules

@@ -3,6 +3,6 @@ use Rattle.desk.proofs.text.put_not_understood.Goals as goal
 
 pub returns : goal.returns
 returns c =
-    before c.in-ok-put.ensures
-    (before c.in-ok-put-number.ensures
-    c.in-ok-put-2.ensures)
+    before c.in_ok-put.ensures
+    (before c.in_ok-put_number.ensures
+    c.in_ok-put-2.ensures)

@@ -5,10 +5,10 @@ use Rattle.desk.proofs.text.put_refusal.Goals as goal
 pub returns : goal.returns
 returns c =
     let written =
-    before c.in-ok-put.ensures
-    (before c.in-ok-put-2.ensures
-    (before c.in-ok-put-3.ensures
-    (before c.in-ok-put-number.ensures
-    (before c.in-ok-put-4.ensures
-    c.in-ok-put-number-2.ensures)))) in
+    before c.in_ok-put.ensures
+    (before c.in_ok-put-2.ensures
+    (before c.in_ok-put-3.ensures
+    (before c.in_ok-put_number.ensures
+    (before c.in_ok-put-4.ensures
+    c.in_ok-put_number-2.ensures)))) in
     search rules

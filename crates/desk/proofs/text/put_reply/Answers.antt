@@ -2,45 +2,45 @@ use Rattle.std.proofs.Common.{rules}
 use Rattle.desk.proofs.Behind.{before}
 use Rattle.desk.proofs.text.put_reply.Goals as goal
 
-pub returns-in-ok-put-2 : goal.returns-in-ok-put-2
-returns-in-ok-put-2 c =
+pub returns-in_ok-put-in-Vocabulary-2 : goal.returns-in_ok-put-in-Vocabulary-2
+returns-in_ok-put-in-Vocabulary-2 c =
     let written =
-    before c.in-ok-put-number.ensures
-    (before c.in-ok-put.ensures
-    (before c.in-ok-put-number-2.ensures
-    c.in-ok-put-2.ensures)) in
+    before c.in_ok-put_number-in-Vocabulary.ensures
+    (before c.in_ok-put-in-Vocabulary.ensures
+    (before c.in_ok-put_number-in-Vocabulary-2.ensures
+    c.in_ok-put-in-Vocabulary-2.ensures)) in
     search rules
 
-pub returns-in-ok-put-number-3 : goal.returns-in-ok-put-number-3
-returns-in-ok-put-number-3 c =
+pub returns-in_ok-put-in-Opened-2 : goal.returns-in_ok-put-in-Opened-2
+returns-in_ok-put-in-Opened-2 c =
     let written =
-    before c.in-ok-put-3.ensures
-    c.in-ok-put-number-3.ensures in
+    before c.in_ok-put_number-in-Opened.ensures
+    (before c.in_ok-put-in-Opened.ensures
+    (before c.in_ok-put_number-in-Opened-2.ensures
+    c.in_ok-put-in-Opened-2.ensures)) in
     search rules
 
-pub returns-in-ok-put-5 : goal.returns-in-ok-put-5
-returns-in-ok-put-5 c =
+pub returns-in_ok-put-in-Read-2 : goal.returns-in_ok-put-in-Read-2
+returns-in_ok-put-in-Read-2 c =
     let written =
-    before c.in-ok-put-number-4.ensures
-    (before c.in-ok-put-4.ensures
-    (before c.in-ok-put-number-5.ensures
-    c.in-ok-put-5.ensures)) in
+    before c.in_ok-put_number-in-Read.ensures
+    (before c.in_ok-put-in-Read.ensures
+    (before c.in_ok-put_number-in-Read-2.ensures
+    c.in_ok-put-in-Read-2.ensures)) in
     search rules
 
-pub returns-in-ok-put-7 : goal.returns-in-ok-put-7
-returns-in-ok-put-7 c =
+pub returns-in_ok-put_number-in-Number : goal.returns-in_ok-put_number-in-Number
+returns-in_ok-put_number-in-Number c =
     let written =
-    before c.in-ok-put-number-6.ensures
-    (before c.in-ok-put-6.ensures
-    (before c.in-ok-put-number-7.ensures
-    c.in-ok-put-7.ensures)) in
+    before c.in_ok-put-in-Number.ensures
+    c.in_ok-put_number-in-Number.ensures in
     search rules
 
-pub returns-in-ok-put-10 : goal.returns-in-ok-put-10
-returns-in-ok-put-10 c =
+pub returns-in_ok-put-in-RefusedOn-3 : goal.returns-in_ok-put-in-RefusedOn-3
+returns-in_ok-put-in-RefusedOn-3 c =
     let written =
-    before c.in-ok-put-refusal-2.ensures
-    (before c.in-ok-put-8.ensures
-    (before c.in-ok-put-9.ensures
-    c.in-ok-put-10.ensures)) in
+    before c.in_ok-put_refusal-in-RefusedOn.ensures
+    (before c.in_ok-put-in-RefusedOn.ensures
+    (before c.in_ok-put-in-RefusedOn-2.ensures
+    c.in_ok-put-in-RefusedOn-3.ensures)) in
     search rules

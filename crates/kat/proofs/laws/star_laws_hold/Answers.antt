@@ -3,4 +3,4 @@ use Rattle.kat.proofs.Repeating.{star_laws}
 use Rattle.kat.proofs.laws.star_laws_hold.Goals as goal
 
 pub returns : goal.returns
-returns c = record { star-is-the-least-that-unfolds = star_laws }
+returns c = record { star_is_the_least_that_unfolds = star_laws }

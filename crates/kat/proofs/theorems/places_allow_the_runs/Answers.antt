@@ -3,4 +3,4 @@ use Rattle.kat.proofs.PlaceRuns.{places_allow_the_runs}
 use Rattle.kat.proofs.theorems.places_allow_the_runs.Goals as goal
 
 pub returns : goal.returns
-returns c = record { exactly-the-runs-of-the-term = places_allow_the_runs }
+returns c = record { exactly_the_runs_of_the_term = places_allow_the_runs }

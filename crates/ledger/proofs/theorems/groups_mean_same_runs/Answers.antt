@@ -3,4 +3,4 @@ use Rattle.ledger.proofs.Groups.{groups_mean_runs_always}
 use Rattle.ledger.proofs.theorems.groups_mean_same_runs.Goals as goal
 
 pub returns : goal.returns
-returns c = record { groups-mean-same-runs = groups_mean_runs_always }
+returns c = record { groups_mean_same_runs = groups_mean_runs_always }

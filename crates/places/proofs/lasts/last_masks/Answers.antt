@@ -12,10 +12,10 @@ loop-i-init c = (refl, λ n holds within passing. none_yet (λ k. last_mask hold
 
 pub loop-i-preserved : goal.loop-i-preserved
 loop-i-preserved c = (
-  length-set c.loop-i.last c.loop-i.i c.last_node_lem.result ∙ c.loop-i.invariant.0,
+  length-set c.loop-i.last c.loop-i.i c.last_node.result ∙ c.loop-i.invariant.0,
   λ n holds within passing.
-      last_turn c.args.nodes.now c.requires c.loop-i.i c.loop-i-test.true _ c.last_node_lem.result c.loop-i.last n holds c.args.s within c.args.pass.now passing
-      (c.loop-i.invariant.1 n holds within passing) c.last_node_lem.ensures,
+      last_turn c.args.nodes.now c.requires c.loop-i.i c.loop-i-test.true _ c.last_node.result c.loop-i.last n holds c.args.s within c.args.pass.now passing
+      (c.loop-i.invariant.1 n holds within passing) c.last_node.ensures,
 )
 
 pub returns : goal.returns

@@ -12,10 +12,10 @@ loop-i-init c = (refl, λ holds s firsts lasts. none_yet (λ k. next_mask holds 
 
 pub loop-i-preserved : goal.loop-i-preserved
 loop-i-preserved c = (
-  length-set c.loop-i.next c.loop-i.i c.next_node_lem.result ∙ c.loop-i.invariant.0,
+  length-set c.loop-i.next c.loop-i.i c.next_node.result ∙ c.loop-i.invariant.0,
   λ holds s firsts lasts.
-      next_turn c.args.nodes.now c.requires.0 c.loop-i.i c.loop-i-test.true _ c.next_node_lem.result c.loop-i.next holds s c.args.p c.requires.1 c.args.first.now c.args.last.now firsts lasts
-      (c.loop-i.invariant.1 holds s firsts lasts) c.next_node_lem.ensures,
+      next_turn c.args.nodes.now c.requires.0 c.loop-i.i c.loop-i-test.true _ c.next_node.result c.loop-i.next holds s c.args.p c.requires.1 c.args.first.now c.args.last.now firsts lasts
+      (c.loop-i.invariant.1 holds s firsts lasts) c.next_node.ensures,
 )
 
 pub returns : goal.returns

@@ -12,11 +12,11 @@ loop-i-init c = none_yet (λ k. action_mask c.args.action (decode c.args.nodes.n
 
 pub loop-i-preserved : goal.loop-i-preserved
 loop-i-preserved c =
-    action_turn c.args.nodes.now c.requires c.loop-i.i c.loop-i-test.true _ c.action_node_lem.result c.loop-i.own_val c.args.action c.loop-i.invariant c.action_node_lem.ensures
+    action_turn c.args.nodes.now c.requires c.loop-i.i c.loop-i-test.true _ c.action_node.result c.loop-i.own c.args.action c.loop-i.invariant c.action_node.ensures
 
 pub returns : goal.returns
 returns c =
     let nodes = c.args.nodes.now in
     let mask = action_mask c.args.action in
     let end : c.loop-i.i ≡ length nodes = omega arith in
-    done mask (sym (bits_no 64)) nodes c.loop-i.own_val (subst (λ i. Sofar (λ k. mask (decode nodes k)) i c.loop-i.own_val) end c.loop-i.invariant)
+    done mask (sym (bits_no 64)) nodes c.loop-i.own (subst (λ i. Sofar (λ k. mask (decode nodes k)) i c.loop-i.own) end c.loop-i.invariant)

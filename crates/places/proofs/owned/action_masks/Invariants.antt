@@ -5,4 +5,4 @@ use Rattle.tables.proofs.Upward.{Sofar}
 use Rattle.places.proofs.owned.action_masks.Given as goal
 
 abbrev pub invariant-loop-i : goal.invariant-loop-i
-invariant-loop-i l = Sofar (λ k. action_mask l.action (decode l.nodes k)) l.i l.own_val
+invariant-loop-i l = Sofar (λ k. action_mask l.action (decode l.nodes k)) l.i l.own

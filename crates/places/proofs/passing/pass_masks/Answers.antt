@@ -15,9 +15,9 @@ loop-i-init c = let m = copied_meaning c.args.vocabulary.now in none_yet (λ k. 
 pub loop-i-preserved : goal.loop-i-preserved
 loop-i-preserved c =
     let m = copied_meaning c.args.vocabulary.now in
-    let whole : c.all-of-all.result ≡ bits_below (λ s. true) m.situations = c.all-of-all.ensures ∙ ap (bits_below (λ s. true)) c.situations.ensures.as-meant in
-    pass_turn c.args.nodes.now c.requires c.loop-i.i c.loop-i-test.true _ c.pass_node_lem.result c.loop-i.pass m.situations m.holds c.all-of-all.result
-    (copied_lawful c.args.vocabulary.now).most whole c.loop-i.invariant c.pass_node_lem.ensures
+    let whole : c.all_of-all.result ≡ bits_below (λ s. true) m.situations = c.all_of-all.ensures ∙ ap (bits_below (λ s. true)) c.situations.ensures.as_meant in
+    pass_turn c.args.nodes.now c.requires c.loop-i.i c.loop-i-test.true _ c.pass_node.result c.loop-i.pass m.situations m.holds c.all_of-all.result
+    (copied_lawful c.args.vocabulary.now).most whole c.loop-i.invariant c.pass_node.ensures
 
 pub returns : goal.returns
 returns c =

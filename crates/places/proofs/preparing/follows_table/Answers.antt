@@ -11,12 +11,12 @@ pub loop-s-preserved : goal.loop-s-preserved
 loop-s-preserved c =
     let table = c.loop-s.table in
     let s = c.loop-s.s in
-    let row = c.follows-in.result in
+    let row = c.follows_in.result in
     let room : s < length table = omega (arith, c.loop-s.invariant.0) in (
       length-set table s row ∙ c.loop-s.invariant.0,
       λ holds passing.
           filled_more (λ s row. FollowsFrom holds s (term_of c.args.nodes.now) row) table s row [] room (c.loop-s.invariant.1 holds passing)
-          (c.follows-in.ensures c.args.situations holds c.loop-s-test.true passing),
+          (c.follows_in.ensures c.args.situations holds c.loop-s-test.true passing),
     )
 
 pub returns : goal.returns

@@ -12,12 +12,12 @@ loop-a-preserved c =
     let nodes = c.args.nodes.now in
     let table = c.loop-a.table in
     let a = c.loop-a.a in
-    let own = c.action-masks-own.result in
-    let root = c.saturating-sub-root.result in
+    let own = c.action_masks-own.result in
+    let root = c.saturating_sub-root.result in
     let is-root : root ≡ length nodes - 1 = search rules in
     let room : a < length table = omega (arith, c.loop-a.invariant.0) in (
       length-set table a (get_or own root 0) ∙ c.loop-a.invariant.0,
-      filled_more (λ a mask. mask ≡ action_mask a (term_of nodes)) table a (get_or own root 0) 0 room c.loop-a.invariant.1 (ap (λ k. get_or own k 0) is-root ∙ c.action-masks-own.ensures (length nodes - 1)),
+      filled_more (λ a mask. mask ≡ action_mask a (term_of nodes)) table a (get_or own root 0) 0 room c.loop-a.invariant.1 (ap (λ k. get_or own k 0) is-root ∙ c.action_masks-own.ensures (length nodes - 1)),
     )
 
 pub returns : goal.returns

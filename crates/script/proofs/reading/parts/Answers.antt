@@ -5,10 +5,10 @@ pub loop-kind-preserved : goal.loop-kind-preserved
 loop-kind-preserved c = (
   tt,
   tt,
-  part_read _ _ _ c.in-Some-read-part.part _ _ _ _ _
+  part_read _ _ _ c.in-Some-read_part.part _ _ _ _ _
       c.loop-kind.invariant.2
       c.in-Some.ensures.steps.words
       c.in-Some-next.ensures.steps.words
-      c.in-Some-read-part.ensures
-      c.in-ok-push.ensures.items,
+      c.in-Some-read_part.ensures
+      c.in_ok-push.ensures.items,
 )

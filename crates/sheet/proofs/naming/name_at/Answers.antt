@@ -6,7 +6,7 @@ use Rattle.sheet.proofs.naming.name_at.Goals as goal
 
 pub returns-then-i-names : goal.returns-then-i-names
 returns-then-i-names c =
-    c.as-bytes.ensures ∙ ap bytes_of c.index-names-i.is
+    c.as_bytes.ensures ∙ ap bytes_of c.index-names-i.is
     ∙ sym (get_or-map bytes_of c.args.names.now c.args.i c.index-names-i.result [] c.if-i-names.true)
 
 pub returns-else-i-names : goal.returns-else-i-names

@@ -5,13 +5,13 @@ use Rattle.signs.specs.Names.{reserved}
 use Rattle.signs.proofs.Literal.{same_four}
 use Rattle.signs.proofs.names.is_name.Goals as goal
 
-pub returns-in-115 : goal.returns-in-115
-returns-in-115 c = rw (same_four c.args.bytes.now) (grind (arith, nat_tests))
+pub returns-in-skip : goal.returns-in-skip
+returns-in-skip c = rw (same_four c.args.bytes.now) (grind (arith, nat_tests))
 
-pub returns-in-115-2 : goal.returns-in-115-2
-returns-in-115-2 c = rw (same_four c.args.bytes.now, same_four c.args.bytes.now) (grind (arith, nat_tests))
+pub returns-in-stop : goal.returns-in-stop
+returns-in-stop c = rw (same_four c.args.bytes.now, same_four c.args.bytes.now) (grind (arith, nat_tests))
 
-pub returns-then-is-spelled : goal.returns-then-is-spelled
-returns-then-is-spelled c =
+pub returns-then-is_spelled : goal.returns-then-is_spelled
+returns-then-is_spelled c =
     let free : reserved c.args.bytes.now ≡ false = rw (same_four c.args.bytes.now, same_four c.args.bytes.now) (grind (arith, nat_tests)) in
     grind (arith, nat_tests)

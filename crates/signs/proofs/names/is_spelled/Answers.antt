@@ -5,11 +5,11 @@ use Rattle.signs.specs.Names.{every, inner}
 use Rattle.signs.proofs.Every.{spelled_parts}
 use Rattle.signs.proofs.names.is_spelled.Goals as goal
 
-pub returns-then-is-letter : goal.returns-then-is-letter
-returns-then-is-letter c =
+pub returns-then-is_letter : goal.returns-then-is_letter
+returns-then-is_letter c =
     let xs = c.args.bytes.now in
     let whole : length (drop 1 xs) ≤ length xs - 1 = omega (arith, length-drop 1 xs) in
-    c.all-inner.ensures
+    c.all_inner.ensures
     ∙ ap (every inner) (take_all (length xs - 1) (drop 1 xs) whole)
-    ∙ ap (λ b. b && every inner (drop 1 xs)) c.if-is-letter.ensures
+    ∙ ap (λ b. b && every inner (drop 1 xs)) c.if-is_letter.ensures
     ∙ sym (spelled_parts xs)

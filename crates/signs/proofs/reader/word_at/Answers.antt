@@ -7,6 +7,6 @@ use Rattle.signs.proofs.reader.word_at.Goals as goal
 
 pub returns : goal.returns
 returns c =
-    let short : ltb 12 (length c.inner-part-word.result.now) ≡ false = le-ltb 12 (length c.inner-part-word.result.now) (omega arith) in
-    rw (← c.inner-part-word.ensures, short, c.word-sign.ensures)
-    (ap (λ n. Ok (word_of c.inner-part-word.result.now c.args.at, n)) (sym (word_behind c.inner-part-word.result.now c.args.at)))
+    let short : ltb 12 (length c.inner_part-word.result.now) ≡ false = le-ltb 12 (length c.inner_part-word.result.now) (omega arith) in
+    rw (← c.inner_part-word.ensures, short, c.word_sign.ensures)
+    (ap (λ n. Ok (word_of c.inner_part-word.result.now c.args.at, n)) (sym (word_behind c.inner_part-word.result.now c.args.at)))

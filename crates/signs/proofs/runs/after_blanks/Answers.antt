@@ -6,12 +6,12 @@ use Rattle.signs.proofs.runs.after_blanks.Goals as goal
 
 pub loop-at-preserved : goal.loop-at-preserved
 loop-at-preserved c =
-    let e = prefix_len-drop_yes blank c.args.text.now c.loop-at.at 0 (omega arith) (sym c.if-is-blank.ensures) in
+    let e = prefix_len-drop_yes blank c.args.text.now c.loop-at.at 0 (omega arith) (sym c.if-is_blank.ensures) in
     omega (arith, c.loop-at.invariant)
 
-pub returns-else-is-blank : goal.returns-else-is-blank
-returns-else-is-blank c =
-    let e = prefix_len-drop_no blank c.args.text.now c.loop-at.at 0 (omega arith) (sym c.if-is-blank.ensures) in
+pub returns-else-is_blank : goal.returns-else-is_blank
+returns-else-is_blank c =
+    let e = prefix_len-drop_no blank c.args.text.now c.loop-at.at 0 (omega arith) (sym c.if-is_blank.ensures) in
     omega (arith, c.loop-at.invariant)
 
 pub returns-after-loop-at : goal.returns-after-loop-at

@@ -13,6 +13,6 @@ loop-word-preserved c = (
       c.in-Some-next.ensures.steps.words
       c.in-Some-situation.ensures
       c.in-Some-action.ensures
-      c.in-ok-push.ensures.items
-      c.in-ok-push-2.ensures.items,
+      c.in_ok-push.ensures.items
+      c.in_ok-push-2.ensures.items,
 )

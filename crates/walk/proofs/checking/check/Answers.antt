@@ -15,18 +15,18 @@ too_long list h = lt-ltb 2048 (length (map pair_of list)) (omega (arith, length-
 not_too_long : (list : List CodePair) → length list ≤ 2048 → ltb 2048 (length (map pair_of list)) ≡ false
 not_too_long list h = le-ltb 2048 (length (map pair_of list)) (omega (arith, length-map list pair_of))
 
-pub returns-then-list-gt-MOST-PAIRS : goal.returns-then-list-gt-MOST-PAIRS
-returns-then-list-gt-MOST-PAIRS g c = record { answer = sym (cond-true _ _ _ (too_long c.args.list.now c.if-list-gt-MOST-PAIRS.true)); a-list-convinces-exactly-when-runs-agree = list_convinces (g.F.Flow.meaning c.args.left.now) (g.G.Flow.meaning c.args.right.now) (g.F.Flow.lawful c.args.left.now) (g.G.Flow.lawful c.args.right.now) }
+pub returns-then-list-gt-MOST_PAIRS : goal.returns-then-list-gt-MOST_PAIRS
+returns-then-list-gt-MOST_PAIRS g c = record { answer = sym (cond-true _ _ _ (too_long c.args.list.now c.if-list-gt-MOST_PAIRS.true)); a_list_convinces_exactly_when_runs_agree = list_convinces (g.F.Flow.meaning c.args.left.now) (g.G.Flow.meaning c.args.right.now) (g.F.Flow.lawful c.args.left.now) (g.G.Flow.lawful c.args.right.now) }
 
-pub returns-then-not-are-alike : goal.returns-then-not-are-alike
-returns-then-not-are-alike g c = record {
-  answer = sym (cond-false _ _ _ (not_too_long c.args.list.now c.if-list-gt-MOST-PAIRS.false) ∙ cond-false _ _ _ (sym c.if-not-are-alike.ensures.as_many));
-  a-list-convinces-exactly-when-runs-agree = list_convinces (g.F.Flow.meaning c.args.left.now) (g.G.Flow.meaning c.args.right.now) (g.F.Flow.lawful c.args.left.now) (g.G.Flow.lawful c.args.right.now);
+pub returns-then-not-are_alike : goal.returns-then-not-are_alike
+returns-then-not-are_alike g c = record {
+  answer = sym (cond-false _ _ _ (not_too_long c.args.list.now c.if-list-gt-MOST_PAIRS.false) ∙ cond-false _ _ _ (sym c.if-not-are_alike.ensures.as_many));
+  a_list_convinces_exactly_when_runs_agree = list_convinces (g.F.Flow.meaning c.args.left.now) (g.G.Flow.meaning c.args.right.now) (g.F.Flow.lawful c.args.left.now) (g.G.Flow.lawful c.args.right.now);
 }
 
 pub returns : goal.returns
 returns g c = record {
   answer = ap (λ found. Ok found) c.examine.ensures.found
-      ∙ sym (cond-false _ _ _ (not_too_long c.args.list.now c.if-list-gt-MOST-PAIRS.false) ∙ cond-true _ _ _ (sym c.if-not-are-alike.ensures.as_many));
-  a-list-convinces-exactly-when-runs-agree = list_convinces (g.F.Flow.meaning c.args.left.now) (g.G.Flow.meaning c.args.right.now) (g.F.Flow.lawful c.args.left.now) (g.G.Flow.lawful c.args.right.now);
+      ∙ sym (cond-false _ _ _ (not_too_long c.args.list.now c.if-list-gt-MOST_PAIRS.false) ∙ cond-true _ _ _ (sym c.if-not-are_alike.ensures.as_many));
+  a_list_convinces_exactly_when_runs_agree = list_convinces (g.F.Flow.meaning c.args.left.now) (g.G.Flow.meaning c.args.right.now) (g.F.Flow.lawful c.args.left.now) (g.G.Flow.lawful c.args.right.now);
 }

@@ -12,7 +12,7 @@ returns-in-Some g c = record {
 pub loop-i-preserved : goal.loop-i-preserved
 loop-i-preserved g c =
     onward (g.F.Flow.meaning c.args.left.now) (g.G.Flow.meaning c.args.right.now) c.args.list.now c.loop-i.i c.loop-i-test.true c.loop-i.invariant
-    c.in-default.ensures.fails
+    c.in_default.ensures.fails
 
 pub returns : goal.returns
 returns g c = record {

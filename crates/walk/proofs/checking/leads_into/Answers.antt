@@ -11,16 +11,16 @@ below actions situation = moves_below situation actions
 abbrev of_one : ℕ → ℕ → List Move
 of_one actions situation = moves_in situation actions
 
-pub returns-then-not-leads-in : goal.returns-then-not-leads-in
-returns-then-not-leads-in g c =
+pub returns-then-not-leads_in : goal.returns-then-not-leads_in
+returns-then-not-leads_in g c =
     let f = g.F.Flow.meaning c.args.left.now in
     record {
       leads = sym (row_fails f (g.G.Flow.meaning c.args.right.now) _ _ (below f.actions) (of_one f.actions) (λ s. refl) c.loop-situation.situation f.situations
-          (omega (arith, c.situations-situation-end.ensures.as-meant)) c.loop-situation.invariant (sym c.if-not-leads-in.ensures.leads));
+          (omega (arith, c.situations-situation-end.ensures.as_meant)) c.loop-situation.invariant (sym c.if-not-leads_in.ensures.leads));
     }
 
 pub loop-situation-preserved : goal.loop-situation-preserved
 loop-situation-preserved g c =
     let f = g.F.Flow.meaning c.args.left.now in
     row_leads f (g.G.Flow.meaning c.args.right.now) _ _ (below f.actions) (of_one f.actions) (λ s. refl) c.loop-situation.situation c.loop-situation.invariant
-    (sym c.if-not-leads-in.ensures.leads)
+    (sym c.if-not-leads_in.ensures.leads)

@@ -15,27 +15,27 @@ of_one actions situation = moves_in situation actions
 pub loop-situation-init : goal.loop-situation-init
 loop-situation-init g c = none_yet _ _ c.requires.used_fit
 
-pub follow-in-requires : goal.follow-in-requires
-follow-in-requires g c = record { used_fit = within c.loop-situation.invariant }
+pub follow_in-requires : goal.follow_in-requires
+follow_in-requires g c = record { used_fit = within c.loop-situation.invariant }
 
-pub returns-in-err-grown : goal.returns-in-err-grown
-returns-in-err-grown g c =
+pub returns-in_err-grown : goal.returns-in_err-grown
+returns-in_err-grown g c =
     let f = g.F.Flow.meaning c.args.left.now in
     record {
       grew = stop f (g.G.Flow.meaning c.args.right.now) _ _ (below f.actions) (of_one f.actions) (λ s. refl) _ _ c.loop-situation.situation c.loop-situation.invariant f.situations
-          (omega (arith, c.situations-situation-end.ensures.as-meant)) c.from-residual.ensures c.in-err-grown.ensures.grew;
+          (omega (arith, c.situations-situation-end.ensures.as_meant)) c.from_residual.ensures c.in_err-grown.ensures.grew;
     }
 
 pub loop-situation-preserved : goal.loop-situation-preserved
 loop-situation-preserved g c =
     let f = g.F.Flow.meaning c.args.left.now in
     turn f (g.G.Flow.meaning c.args.right.now) _ _ (below f.actions) (of_one f.actions) (λ s. refl) _ _ c.loop-situation.situation c.loop-situation.invariant
-    c.in-ok-grown.ensures.grew
+    c.in_ok-grown.ensures.grew
 
 pub returns : goal.returns
 returns g c =
     let f = g.F.Flow.meaning c.args.left.now in
     record {
       grew = finish f (g.G.Flow.meaning c.args.right.now) _ _ (below f.actions) (of_one f.actions) (λ s. refl) _ _ c.loop-situation.situation f.situations
-          (omega (arith, c.situations-situation-end.ensures.as-meant)) c.loop-situation.invariant;
+          (omega (arith, c.situations-situation-end.ensures.as_meant)) c.loop-situation.invariant;
     }

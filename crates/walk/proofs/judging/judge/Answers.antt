@@ -8,13 +8,13 @@ returns g c =
     let right = g.G.Flow.meaning c.args.right.now in
     let told = c.compare.ensures in
     let says = judged_says left right (g.F.Flow.lawful c.args.left.now) (g.G.Flow.lawful c.args.right.now) c.args.table.now _ c.args.run.now _ c.compare.result
-    told.answer told.table-afterwards told.run-afterwards in
+    told.answer told.table_afterwards told.run_afterwards in
     record {
       answer = told.answer;
-      table-afterwards = told.table-afterwards;
-      run-afterwards = told.run-afterwards;
+      table_afterwards = told.table_afterwards;
+      run_afterwards = told.run_afterwards;
       equal_means_same_runs = says.if_equal;
       different_shows_a_shortest_run = says.if_different;
-      full-means-more-meeting-pairs = says.if_full;
-      a-list-convinces-exactly-when-runs-agree = list_convinces left right (g.F.Flow.lawful c.args.left.now) (g.G.Flow.lawful c.args.right.now);
+      full_means_more_meeting_pairs = says.if_full;
+      a_list_convinces_exactly_when_runs_agree = list_convinces left right (g.F.Flow.lawful c.args.left.now) (g.G.Flow.lawful c.args.right.now);
     }

@@ -9,8 +9,8 @@ some c = omega (arith, c.loop-at-test.true)
 pub loop-at-init : goal.loop-at-init
 loop-at-init c = count_none c.args.table.now c.args.i c.requires.met_earlier
 
-pub overflow-add-count : goal.overflow-add-count
-overflow-add-count c = omega (arith, count_fits c.args.table.now c.args.i c.requires.met_earlier c.loop-at.invariant (some c))
+pub overflow_add-count : goal.overflow_add-count
+overflow_add-count c = omega (arith, count_fits c.args.table.now c.args.i c.requires.met_earlier c.loop-at.invariant (some c))
 
 pub loop-at-smaller : goal.loop-at-smaller
 loop-at-smaller c = c.requires.met_earlier.1 c.loop-at.at (some c) c.loop-at.invariant.before

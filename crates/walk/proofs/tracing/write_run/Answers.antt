@@ -18,8 +18,8 @@ room c =
 pub loop-at-init : goal.loop-at-init
 loop-at-init c = write_none c.args.table.now c.args.i c.requires.met_earlier _ c.args.actions c.requires.counted
 
-pub overflow-sub-place : goal.overflow-sub-place
-overflow-sub-place c = two_left c.args.table.now c.args.i c.requires.met_earlier c.loop-at.invariant (some (goal.at.overflow-sub-place c).In-loop-at)
+pub overflow_sub-place : goal.overflow_sub-place
+overflow_sub-place c = two_left c.args.table.now c.args.i c.requires.met_earlier c.loop-at.invariant (some (goal.at.overflow_sub-place c).In-loop-at)
 
 pub bounds-run-place-in-loop-at-2 : goal.bounds-run-place-in-loop-at-2
 bounds-run-place-in-loop-at-2 c =

@@ -4,14 +4,14 @@ use Rattle.std.proofs.lemmas.List.Sums.{prefix_len-drop_yes, prefix_len-drop_no,
 use Rattle.words.specs.Words.{blank}
 use Rattle.words.proofs.split_words.blanks_len.Goals as goal
 
-pub returns-then-not-is-blank : goal.returns-then-not-is-blank
-returns-then-not-is-blank c =
-    let e = prefix_len-drop_no blank c.args.line.now c.loop-i.i 0 c.loop-i-test.true (sym c.if-not-is-blank.ensures) in
+pub returns-then-not-is_blank : goal.returns-then-not-is_blank
+returns-then-not-is_blank c =
+    let e = prefix_len-drop_no blank c.args.line.now c.loop-i.i 0 c.loop-i-test.true (sym c.if-not-is_blank.ensures) in
     omega (arith, c.loop-i.invariant)
 
 pub loop-i-preserved : goal.loop-i-preserved
 loop-i-preserved c =
-    let e = prefix_len-drop_yes blank c.args.line.now c.loop-i.i 0 c.loop-i-test.true (sym c.if-not-is-blank.ensures) in
+    let e = prefix_len-drop_yes blank c.args.line.now c.loop-i.i 0 c.loop-i-test.true (sym c.if-not-is_blank.ensures) in
     omega (arith, c.loop-i.invariant)
 
 pub returns : goal.returns

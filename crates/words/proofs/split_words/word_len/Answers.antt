@@ -4,14 +4,14 @@ use Rattle.std.proofs.lemmas.List.Sums.{prefix_len-drop_yes, prefix_len-drop_no,
 use Rattle.words.specs.Words.{in_word}
 use Rattle.words.proofs.split_words.word_len.Goals as goal
 
-pub returns-then-is-blank : goal.returns-then-is-blank
-returns-then-is-blank c =
-    let e = prefix_len-drop_no in_word c.args.line.now c.loop-i.i 0 c.loop-i-test.true (ap not (sym c.if-is-blank.ensures)) in
+pub returns-then-is_blank : goal.returns-then-is_blank
+returns-then-is_blank c =
+    let e = prefix_len-drop_no in_word c.args.line.now c.loop-i.i 0 c.loop-i-test.true (ap not (sym c.if-is_blank.ensures)) in
     omega (arith, c.loop-i.invariant)
 
 pub loop-i-preserved : goal.loop-i-preserved
 loop-i-preserved c =
-    let e = prefix_len-drop_yes in_word c.args.line.now c.loop-i.i 0 c.loop-i-test.true (ap not (sym c.if-is-blank.ensures)) in
+    let e = prefix_len-drop_yes in_word c.args.line.now c.loop-i.i 0 c.loop-i-test.true (ap not (sym c.if-is_blank.ensures)) in
     omega (arith, c.loop-i.invariant)
 
 pub returns : goal.returns

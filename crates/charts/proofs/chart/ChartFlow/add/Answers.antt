@@ -8,14 +8,14 @@ use Rattle.charts.proofs.Joins.{end_joined, joined_within}
 use Rattle.charts.proofs.Within.{move_within, end_within}
 use Rattle.charts.proofs.chart.ChartFlow.add.Goals as goal
 
-pub overflow-cast-self : goal.overflow-cast-self
-overflow-cast-self c = let h = move_within _ _ _ _ _ _ _ _ c.in-Move.is c.requires.within in omega arith
+pub overflow_cast-self : goal.overflow_cast-self
+overflow_cast-self c = let h = move_within _ _ _ _ _ _ _ _ c.in-Move.is c.requires.within in omega arith
 
-pub overflow-cast-self-in-Move-2 : goal.overflow-cast-self-in-Move-2
-overflow-cast-self-in-Move-2 c = let h = move_within _ _ _ _ _ _ _ _ c.in-Move.is c.requires.within in omega arith
+pub overflow_cast-self-in-Move-2 : goal.overflow_cast-self-in-Move-2
+overflow_cast-self-in-Move-2 c = let h = move_within _ _ _ _ _ _ _ _ c.in-Move.is c.requires.within in omega arith
 
-pub offset-bounds-self-at : goal.offset-bounds-self-at
-offset-bounds-self-at c = let h = end_within _ _ _ _ _ _ c.in-End.is c.requires.within in omega arith
+pub offset_bounds-self-at : goal.offset_bounds-self-at
+offset_bounds-self-at c = let h = end_within _ _ _ _ _ _ c.in-End.is c.requires.within in omega arith
 
 pub returns-in-Move : goal.returns-in-Move
 returns-in-Move c =
@@ -46,8 +46,8 @@ returns-in-End c =
       };
     }
 
-pub invariant-of-self-in-End : goal.invariant-of-self-in-End
-invariant-of-self-in-End c =
+pub invariant_of-self-in-End : goal.invariant_of-self-in-End
+invariant_of-self-in-End c =
     let x = c.args.self.now in
     let h = end_within _ _ _ _ _ _ c.in-End.is c.requires.within in
-    (x.few, (joined_within x.counts.situations x.states x.ends c.in-End.at c.in-End.mask (omega arith) h.state h.short x.within, (x.room, tt)))
+    record { few = x.few; within = joined_within x.counts.situations x.states x.ends c.in-End.at c.in-End.mask (omega arith) h.state h.short x.within; room = x.room }

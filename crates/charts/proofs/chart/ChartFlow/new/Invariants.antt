@@ -3,4 +3,4 @@ use Rattle.charts.proofs.Drawing.{Sofar}
 use Rattle.charts.proofs.chart.ChartFlow.new.Given as goal
 
 abbrev pub invariant-loop-place : goal.invariant-loop-place
-invariant-loop-place l = Sofar l.counts.situations l.counts.actions l.states l.lines l.place l.chart.0 l.chart.1.0 l.chart.1.1.0 l.chart.1.1.1.0 l.chart.1.1.1.1.0
+invariant-loop-place l = Sofar l.counts.situations l.counts.actions l.states l.lines l.place l.chart.counts l.chart.states l.chart.ends l.chart.arrows l.chart.used

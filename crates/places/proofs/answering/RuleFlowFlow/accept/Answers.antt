@@ -9,8 +9,8 @@ use Rattle.places.proofs.answering.RuleFlowFlow.accept.Goals.{then-code-self-ne0
 pub loop-s-init : goal.loop-s-init
 loop-s-init c = bits_none _
 
-pub overflow-add-accepted : goal.overflow-add-accepted
-overflow-add-accepted c =
+pub overflow_add-accepted : goal.overflow_add-accepted
+overflow_add-accepted c =
     let most = c.args.self.now.most in
     let sum = bits_more_fit (λ s. shares c.args.code (get_or c.args.self.now.ends s 0)) c.loop-s.s c.loop-s.accepted (omega arith) c.loop-s.invariant in
     search rules

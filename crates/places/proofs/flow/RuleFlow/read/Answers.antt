@@ -14,21 +14,21 @@ use Rattle.places.proofs.GrantedTerms.{granted_term}
 use Rattle.places.proofs.Told.{found, granted_flow, refused_flow}
 use Rattle.places.proofs.flow.RuleFlow.read.Goals as goal
 
-pub returns-in-err-rule : goal.returns-in-err-rule
-returns-in-err-rule c =
+pub returns-in_err-rule : goal.returns-in_err-rule
+returns-in_err-rule c =
     let laid = sheet_of c.args.sheet.now in
     let text = c.args.text.now in
     let nodes = c.args.nodes.now in
-    let told = c.in-err-rule.ensures in
-    let p = err_from_is_err_and c.from-residual.result c.from-residual.ensures.1 in
+    let told = c.in_err-rule.ensures in
+    let p = err_from_is_err_and c.from_residual.result c.from_residual.ensures.1 in
     let means : means_of c.names.result.now ≡ means_on laid = ap meaning_of c.names.ensures in
     let read : read_text (means_of c.names.result.now) text ≡ text_on laid text = ap (λ means. read_text means text) means in
     let fault = told.answer ∙ ap (rule_of (length nodes)) read in
     record {
       answer = ap meant (p.1 ∙ ap Err p.2) ∙ refused_flow laid (length nodes) (text_on laid text) _ fault;
-      allows-exactly-the-runs-of-the-rule = subst (λ (r : Result RuleFlow RuleFault). IfOk r (λ flow. AllowsTheRunsOf laid text (rule_meaning flow))) (sym p.1) tt;
-      nodes-afterwards = told.nodes-afterwards ∙ ap (nodes_after nodes) read;
-      granted-exactly-for-rules = subst (λ means. GrantedExactlyForRules means text) means told.granted-exactly-for-rules;
+      allows_exactly_the_runs_of_the_rule = subst (λ (r : Result RuleFlow RuleFault). IfOk r (λ flow. AllowsTheRunsOf laid text (rule_meaning flow))) (sym p.1) tt;
+      nodes_afterwards = told.nodes_afterwards ∙ ap (nodes_after nodes) read;
+      granted_exactly_for_rules = subst (λ means. GrantedExactlyForRules means text) means told.granted_exactly_for_rules;
     }
 
 pub returns : goal.returns
@@ -36,19 +36,19 @@ returns c =
     let laid = sheet_of c.args.sheet.now in
     let text = c.args.text.now in
     let nodes = c.args.nodes.now in
-    let rule = c.in-ok-rule.rule in
-    let told = c.in-ok-rule.ensures in
+    let rule = c.in_ok-rule.rule in
+    let told = c.in_ok-rule.ensures in
     let means : means_of c.names.result.now ≡ means_on laid = ap meaning_of c.names.ensures in
     let read : read_text (means_of c.names.result.now) text ≡ text_on laid text = ap (λ means. read_text means text) means in
-    let granted = subst (λ means. GrantedExactlyForRules means text) means told.granted-exactly-for-rules in
+    let granted = subst (λ means. GrantedExactlyForRules means text) means told.granted_exactly_for_rules in
     let one = found (length nodes) (text_on laid text) rule (told.answer ∙ ap (rule_of (length nodes)) read) in
     let whole = granted_flow laid (length nodes) text (rule_meaning c.over.result) granted one
     (subst (λ e. IsThePlacesOf laid e (rule_meaning c.over.result))
-    (granted_term (read_text (means_of c.names.result.now) text) rule nodes c.read-rule.new.nodes (omega arith) told.answer told.nodes-afterwards one.term (read ∙ one.is))
-    c.over.ensures.as-its-places) in
+    (granted_term (read_text (means_of c.names.result.now) text) rule nodes c.read_rule.new.nodes (omega arith) told.answer told.nodes_afterwards one.term (read ∙ one.is))
+    c.over.ensures.as_its_places) in
     record {
       answer = whole.answer;
-      allows-exactly-the-runs-of-the-rule = whole.runs;
-      nodes-afterwards = told.nodes-afterwards ∙ ap (nodes_after nodes) read;
-      granted-exactly-for-rules = granted;
+      allows_exactly_the_runs_of_the_rule = whole.runs;
+      nodes_afterwards = told.nodes_afterwards ∙ ap (nodes_after nodes) read;
+      granted_exactly_for_rules = granted;
     }

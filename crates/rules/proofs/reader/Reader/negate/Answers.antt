@@ -11,6 +11,6 @@ returns c =
     record {
       name = put.name;
       stays = put.stays;
-      as-defined = λ used nodes d e. with_root _ _ true None _ _ put.root put.adds ∙ negated used nodes c.args.place d (record { root = c.args.unit.root; test = c.args.unit.is_test; next = None; then = standing c.args.self.now }) (not-false _ c.if-not-unit.false) e;
+      as_defined = λ used nodes d e. with_root _ _ true None _ _ put.root put.adds ∙ negated used nodes c.args.place d (record { root = c.args.unit.root; test = c.args.unit.is_test; next = None; then = standing c.args.self.now }) (not-false _ c.if-not-unit.false) e;
       adds = one_more _ _ _ put.adds;
     }

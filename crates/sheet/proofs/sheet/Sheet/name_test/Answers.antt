@@ -5,22 +5,21 @@ use Rattle.sheet.proofs.Few.{few_after_test}
 use Rattle.sheet.proofs.Found.{found_under_number}
 use Rattle.sheet.proofs.sheet.Sheet.name_test.Goals as goal
 
-pub invariant-of-self : goal.invariant-of-self
-invariant-of-self c =
+pub invariant_of-self : goal.invariant_of-self
+invariant_of-self c =
     let before = names_of c.args.self.now.names in
-    let name = c.args.name.now in (
-      few_after_test before _ _ name c.add-test.result
-          (c.add-test.ensures.answer ∙ ap (λ all. test_number before all name) c.tests-all.ensures.as-meant)
-          c.add-test.ensures.after
-          c.args.self.now.few_tests,
-      tt,
-    )
+    let name = c.args.name.now in record {
+      few_tests = few_after_test before _ _ name c.add_test.result
+          (c.add_test.ensures.answer ∙ ap (λ all. test_number before all name) c.tests-all.ensures.as_meant)
+          c.add_test.ensures.after
+          c.args.self.now.few_tests;
+    }
 
 pub returns : goal.returns
 returns c =
-    let after = c.add-test.new.self in
+    let after = c.add_test.new.self in
     record {
       answer = search rules;
       after = search rules;
-      each-name-is-found-under-its-number = found_under_number (names_of after) after.each_test_found after.each_action_found;
+      each_name_is_found_under_its_number = found_under_number (names_of after) after.each_test_found after.each_action_found;
     }

@@ -11,7 +11,7 @@ returns-then-test-self c =
     let e = mask_written x.situations x.tests x.masks c.args.test (omega arith) (x.within c.args.test (omega arith)) in
     record {
       mask = e;
-      each-bit-says-where-the-test-holds = λ s. ap (bit s) e ∙ mask_bit (copied_meaning x) (copied_lawful x) c.args.test s;
+      each_bit_says_where_the_test_holds = λ s. ap (bit s) e ∙ mask_bit (copied_meaning x) (copied_lawful x) c.args.test s;
     }
 
 pub returns-else-test-self : goal.returns-else-test-self
@@ -20,5 +20,5 @@ returns-else-test-self c =
     let e = mask_outside (copied_meaning x) (copied_lawful x) c.args.test (omega arith) in
     record {
       mask = e;
-      each-bit-says-where-the-test-holds = λ s. ap (bit s) e ∙ mask_bit (copied_meaning x) (copied_lawful x) c.args.test s;
+      each_bit_says_where_the_test_holds = λ s. ap (bit s) e ∙ mask_bit (copied_meaning x) (copied_lawful x) c.args.test s;
     }

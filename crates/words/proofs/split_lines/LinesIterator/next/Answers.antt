@@ -9,27 +9,27 @@ use Rattle.words.proofs.split_lines.LinesIterator.next.Goals as goal
 use Rattle.words.proofs.split_lines.LinesIterator.next.Goals.{in-Some, in-None}
 use Rattle.std.proofs.iter.Next.{firm}
 
-pub returns-then-is-empty : goal.returns-then-is-empty
-returns-then-is-empty c =
+pub returns-then-is_empty : goal.returns-then-is_empty
+returns-then-is_empty c =
     let text = c.args.self.now.rest.now in
-    record { steps = read_none text (eqb-true (length text) 0 (sym c.if-is-empty.ensures)); goes = firm (tt) (λ h. search rules) }
+    record { steps = read_none text (eqb-true (length text) 0 (sym c.if-is_empty.ensures)); goes = firm (tt) (λ h. search rules) }
 
-pub split-at-requires : goal.split-at-requires
-split-at-requires c = omega (arith, prefix_len-le-length in_line c.args.self.now.rest.now)
+pub split_at-requires : goal.split_at-requires
+split_at-requires c = omega (arith, prefix_len-le-length in_line c.args.self.now.rest.now)
 
 pub returns : goal.returns
 returns c =
     let text = c.args.self.now.rest.now in
-    let behind = c.split-at.result.1.now in
-    let rest = c.match-split-first.self.now in
-    let full : 0 < length text = omega (arith, eqb-false (length text) 0 (sym c.if-is-empty.ensures)) in
+    let behind = c.split_at.result.1.now in
+    let rest = c.match-split_first.self.now in
+    let full : 0 < length text = omega (arith, eqb-false (length text) 0 (sym c.if-is_empty.ensures)) in
     let left : rest ≡ drop 1 behind =
-    elim c.match-split-first.branch [
+    elim c.match-split_first.branch [
       | in-Some w ↦ ap (λ r. r.now) w.self-is ∙ sym (ap (drop 1) w.in-Some.ensures.cases.0)
       | in-None w ↦
           let none = w.in-None.ensures.cases in
           let short : length behind ≤ 1 = omega (arith, none) in
           ap (λ r. r.now) w.self-is ∙ nil_from_length behind none ∙ sym (drop_all 1 behind short)
     ] in
-    let step = read_line text _ rest _ full c.line-len.ensures c.split-at.ensures.front (left ∙ ap (drop 1) c.split-at.ensures.back) in
+    let step = read_line text _ rest _ full c.line_len.ensures c.split_at.ensures.front (left ∙ ap (drop 1) c.split_at.ensures.back) in
     record { steps = step; goes = firm ((tt, tt, step.cases)) (λ h. search rules) }

@@ -1,5 +1,5 @@
 // Naming at its limits.
-use sheet::{NameFault, Sheet};
+use crate::{NameFault, Sheet};
 use std::test::Fail;
 use vocabulary::Flags;
 

@@ -3,7 +3,7 @@ use Rattle.std.proofs.Common.{drop, vec_items}
 use Rattle.sheet.specs.Laid.{sheet_of}
 use Rattle.texts.proofs.Ahead.{Ahead}
 use Rattle.showing.specs.Told.{holding, in_words}
-use Rattle.showing.proofs.runs.put_in_words.Given as goal
+use Rattle.showing.proofs.told_runs.put_in_words.Given as goal
 
 abbrev pub invariant-loop-t : goal.invariant-loop-t
 invariant-loop-t l =

@@ -1,7 +1,7 @@
 // The rule reader on examples: a sheet with the test `locked` and the actions `send` and `keep`.
+use crate::{Node, faulty_sign, read_rule};
 use grammar::RuleFault;
 use refusals::Refusal;
-use rules::{Node, faulty_sign, read_rule};
 use sheet::Sheet;
 use std::alloc::Global;
 use std::test::Fail;

@@ -2,8 +2,8 @@
 use Rattle.std.proofs.Common.{ℕ, ◌<◌, ◌≤◌, [], length, get_or, vec_items, sym, ap, ◌∙◌, subst}
 use Rattle.sheet.specs.Laid.{sheet_of}
 use Rattle.showing.proofs.Told.{none_put, test_passed, test_put, tests_put}
-use Rattle.showing.proofs.runs.put_in_words.Goals as goal
-use Rattle.showing.proofs.runs.put_in_words.Goals.{then-holds+in-ok-put-test, else-holds}
+use Rattle.showing.proofs.told_runs.put_in_words.Goals as goal
+use Rattle.showing.proofs.told_runs.put_in_words.Goals.{then-holds+in_ok-put_test, else-holds}
 
 pub loop-t-preserved : goal.loop-t-preserved
 loop-t-preserved c =
@@ -11,24 +11,24 @@ loop-t-preserved c =
     let holds = λ (t : ℕ). laid.meaning.holds t c.args.s in
     let all = c.tests-t-end.ensures ∙ ap (λ n. length n.tests) c.names-names.ensures in
     let within = subst (λ n. c.loop-t.t < n) all c.loop-t-test.true in
-    let asked = sym (c.holds.ensures.as-meant ∙ ap (λ m. m.holds c.loop-t.t c.args.s) c.vocabulary-vocabulary.ensures) in
+    let asked = sym (c.holds.ensures.as_meant ∙ ap (λ m. m.holds c.loop-t.t c.args.s) c.vocabulary-vocabulary.ensures) in
     elim c.if-holds.branch [
-      | then-holds+in-ok-put-test w ↦
+      | then-holds+in_ok-put_test w ↦
           let named = w.test_name.ensures ∙ ap (λ n. get_or n.tests c.loop-t.t []) c.names-names.ensures in
           simp (w.out-is, w.first-is)
-          (test_put _ _ holds laid.names.tests c.loop-t.t c.loop-t.first _ _ _ within (asked ∙ w.if-holds.true) named c.loop-t.invariant w.in-ok-put-test.ensures)
+          (test_put _ _ holds laid.names.tests c.loop-t.t c.loop-t.first _ _ _ within (asked ∙ w.if-holds.true) named c.loop-t.invariant w.in_ok-put_test.ensures)
       | else-holds w ↦
           simp (w.out-is, w.first-is)
           (test_passed _ _ holds laid.names.tests c.loop-t.t c.loop-t.first _ within (asked ∙ w.if-holds.false) c.loop-t.invariant)
     ]
 
-pub returns-in-ok-put : goal.returns-in-ok-put
-returns-in-ok-put c =
+pub returns-in_ok-put : goal.returns-in_ok-put
+returns-in_ok-put c =
     let laid = sheet_of c.args.sheet.now in
     let all = c.tests-t-end.ensures ∙ ap (λ n. length n.tests) c.names-names.ensures in
     let end = subst (λ n. n ≤ c.loop-t.t) all c.loop-t-test.false in
     none_put _ _ (λ t. laid.meaning.holds t c.args.s) laid.names.tests c.loop-t.t c.loop-t.first _ (vec_items c.put.new.out) end c.if-first.true
-    c.loop-t.invariant c.in-ok-put.ensures
+    c.loop-t.invariant c.in_ok-put.ensures
 
 pub returns-else-first : goal.returns-else-first
 returns-else-first c =

@@ -1,5 +1,5 @@
 // Lines that are understood and lines that are not, with their answers.
-use desk::Desk;
+use crate::Desk;
 use std::process::Abort;
 use std::test::Fail;
 use words::Lines;

@@ -2,9 +2,9 @@
 ghost use Rattle.std.specs.Prelude.{false, refl};
 ghost use Rattle.std.proofs.Common.{lit≤};
 
+use crate::{Copied, Flags, Pair, Scale, Vocabulary, VocabularyFault};
 use refusals::{Layer, Refusal};
 use std::test::Fail;
-use vocabulary::{Copied, Flags, Pair, Scale, Vocabulary, VocabularyFault};
 
 // One situation, and 17 tests that do not hold in it.
 #[derive(Clone, Copy)]

@@ -1,6 +1,6 @@
 // Examples of lines, words, numbers and printed numbers.
+use crate::{Lines, Words, number, push_decimal, text_behind};
 use std::test::Fail;
-use words::{Lines, Words, number, push_decimal, text_behind};
 
 #[test]
 fn lines_end_in_a_line_feed(rt: HostRuntime) {
