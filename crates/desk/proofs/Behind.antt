@@ -1,5 +1,5 @@
 -- Texts put one behind the other. Serves the functions that write answers.
-use Rattle.std.proofs.Common.{◌≡◌, ℕ, List, ◌++◌, ap, ◌∙◌}
+use Rattle.std.proofs.Common.{ℕ, List, ◌++◌, ap, ◌∙◌}
 use Rattle.std.proofs.lemmas.List.{append_assoc}
 use Rattle.desk.specs.Texts.{Adds}
 

@@ -8,7 +8,6 @@ use Rattle.grammar.specs.declared.fault.RuleFault.{RuleFault}
 use Rattle.rules.specs.FaultySigns.{faulty_sign}
 use Rattle.rules.specs.declared.rule.Rule.{Rule}
 use Rattle.script.specs.Asked.{Call, action, opening, reading, test, vocabulary}
-use Rattle.script.specs.declared.command.Part.{Part}
 use Rattle.sheet.specs.Faults as nameFaults
 use Rattle.sheet.specs.Laid.{LaidOut, begun, name_action_on, name_test_on, sheet_of, with_action_named, with_test_named}
 use Rattle.sheet.specs.declared.fault.NameFault.{NameFault}

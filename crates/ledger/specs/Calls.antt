@@ -1,5 +1,5 @@
 -- The calls on a book: what each answers, and what the book holds afterwards.
-use Rattle.std.specs.Prelude.{ℕ, ◌-◌, Bool, cond, not, List, [], ◌∷◌, ◌++◌, map, length, is_some, Some, None, Ok, Err, Option, Result, nat_le, nat_lt}
+use Rattle.std.specs.Prelude.{ℕ, ◌-◌, cond, List, [], ◌∷◌, ◌++◌, length, is_some, Some, None, Ok, Err, Option, Result, nat_le, nat_lt}
 use Rattle.charts.specs.Faults as chartFaults
 use Rattle.charts.specs.Limits.{chart_fault}
 use Rattle.charts.specs.declared.fault.ChartFault.{ChartFault}

@@ -1,9 +1,8 @@
 -- Lists of calls: what a book holds after them, and which flows are in it by the calls and their answers alone.
 use Rattle.std.specs.Prelude.{ℕ, cond, List, [], ◌∷◌, ◌++◌, Some, None, Option}
 use Rattle.std.specs.Str.{bytes_eq}
-use Rattle.sheet.specs.Laid.{LaidOut}
-use Rattle.ledger.specs.Calls.{Answer, Call, Outcome, chart, compare, compared, file, filed_in, group, in_group, performed, recheck, rechecked, refused, strike, struck}
-use Rattle.ledger.specs.Ledgers.{Ledger, opened}
+use Rattle.ledger.specs.Calls.{Answer, Call, chart, compare, compared, file, filed_in, group, in_group, performed, recheck, rechecked, refused, strike, struck}
+use Rattle.ledger.specs.Ledgers.{Ledger}
 use Rattle.ledger.specs.Sources.{Source, a_chart, a_text}
 
 -- A call with its answer.

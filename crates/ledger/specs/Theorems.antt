@@ -1,7 +1,7 @@
 -- What is shown of books: which flows are in them, and what their groups mean.
-use Rattle.std.specs.Prelude.{◌≡◌, ℕ, List, [], ◌∷◌, ◌++◌, Some, None}
+use Rattle.std.specs.Prelude.{◌≡◌, ℕ, List, Some, None}
 use Rattle.sheet.specs.Laid.{LaidOut}
-use Rattle.ledger.specs.Calls.{Call, chart, file, filed_in, group, in_group, performed, refused, no_such_flow, strike, struck}
+use Rattle.ledger.specs.Calls.{Call, filed_in, group, in_group, performed, refused, no_such_flow}
 use Rattle.ledger.specs.Histories.{book_after, events_of, source_of, standing}
 use Rattle.ledger.specs.Ledgers.{Ledger, opened}
 use Rattle.ledger.specs.Sources.{LawfulSheet, SameSourceRuns, Source}

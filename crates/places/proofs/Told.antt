@@ -2,7 +2,6 @@
 use Rattle.std.proofs.Common.{◌≡◌, ℕ, Bool, true, false, cond, ltb, List, length, Ok, Err, Result, sym, refl, ap, ◌∙◌, arith}
 use Rattle.std.proofs.lemmas.Bool.{cond-false}
 use Rattle.grammar.proofs.Numbering.{rule_is_numbered}
-use Rattle.grammar.specs.Derivations.{Rule}
 use Rattle.grammar.specs.declared.fault.RuleFault.{RuleFault}
 use Rattle.grammar.specs.declared.fault.RuleFault.TheVariants.{NoRoom}
 use Rattle.kat.proofs.PlaceRuns.{places_allow_the_runs}

@@ -6,6 +6,7 @@
 use anyhow::anyhow;
 use desk::Desk;
 use std::io::{Read, Write};
+use std::process::ExitCode;
 use std::{env, fs};
 use words::Lines;
 
@@ -52,13 +53,13 @@ fn run(rt: &HostRuntime) -> anyhow::Result<bool> {
     answer_script(rt, &script)
 }
 
-fn main(rt: HostRuntime) -> anyhow::Result<()> {
+fn main(rt: HostRuntime) -> ExitCode {
     match run(&rt) {
-        Ok(true) => Ok(()),
-        Ok(false) => Err(anyhow!("a line was not understood")),
+        Ok(true) => ExitCode::SUCCESS,
+        Ok(false) => ExitCode::FAILURE,
         Err(e) => {
-            eprintln!(rt; "rulebook: {e}")?;
-            Err(e)
+            let _ = eprintln!(rt; "rulebook: {e}");
+            ExitCode::FAILURE
         }
     }
 }

@@ -1,5 +1,5 @@
 -- Parts that are read one by one: what was read, with what is still ahead, is the whole. Serves `parts`.
-use Rattle.std.proofs.Common.{◌≡◌, ℕ, List, [], ◌∷◌, ◌++◌, Some, None, Option, sym, refl, ap, ◌∙◌, append-nil}
+use Rattle.std.proofs.Common.{◌≡◌, ℕ, List, [], ◌∷◌, ◌++◌, Some, None, Option, sym, refl, ap, ◌∙◌}
 use Rattle.std.proofs.lemmas.List.{append_assoc}
 use Rattle.script.specs.Lines.{and_then, part_of, parts_of}
 use Rattle.script.specs.declared.command.Part.{Part}

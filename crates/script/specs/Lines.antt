@@ -1,6 +1,5 @@
 -- What the words of a line ask for.
 use Rattle.std.specs.Prelude.{ℕ, Bool, true, false, cond, List, [], ◌∷◌, Some, None, codes, Option, ◌==◌, slice_index}
-use Rattle.std.specs.Option.{option_map}
 use Rattle.std.specs.Str.{bytes_eq}
 use Rattle.words.specs.Number.{number_of}
 use Rattle.script.specs.declared.command.Part.{Part}

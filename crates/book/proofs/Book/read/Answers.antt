@@ -1,5 +1,5 @@
 -- What the reader of rules gives, by the names that the sheet of the book has.
-use Rattle.std.proofs.Common.{List, ap, ◌∙◌, subst}
+use Rattle.std.proofs.Common.{ap, ◌∙◌, subst}
 use Rattle.rules.specs.Granted.{GrantedExactlyForRules}
 use Rattle.rules.specs.Rules.{read_text, rule_of}
 use Rattle.sheet.specs.Naming.{NameList, meaning_of}

@@ -1,5 +1,5 @@
 -- A refusal is handed on, and the flow of a text that is granted is that of the nodes that it was laid out in.
-use Rattle.std.proofs.Common.{◌≡◌, ◌-◌, length, IfOk, Err, Result, sym, ap, ◌∙◌, subst, arith}
+use Rattle.std.proofs.Common.{◌≡◌, length, IfOk, Err, Result, sym, ap, ◌∙◌, subst, arith}
 use Rattle.std.proofs.lemmas.Result.{err_from_is_err_and}
 use Rattle.grammar.specs.declared.fault.RuleFault.{RuleFault}
 use Rattle.rules.specs.Granted.{GrantedExactlyForRules}

@@ -3,7 +3,7 @@
 use Rattle.std.proofs.Common.{◌≡◌, Some, None, Ok, Err, sym, refl, ap, ◌∙◌}
 use Rattle.std.proofs.lemmas.Result.{err_from_is_err_and}
 use Rattle.signs.specs.Reader.{mark_of}
-use Rattle.grammar.specs.Reading.{judge, judged, pull, sign}
+use Rattle.grammar.specs.Reading.{judged, pull}
 use Rattle.rules.specs.Machines.{machine_of, outcome}
 use Rattle.rules.specs.Readers.{ahead_by, means_of, standing}
 use Rattle.rules.specs.Aheads.{ahead_of}
