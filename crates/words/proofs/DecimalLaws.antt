@@ -1,7 +1,6 @@
--- The digits of a number are read back as the number, and are what division by ten gives, last digit first.
-use Rattle.std.proofs.Common.{◌≡◌, ℕ, zero, suc, ◌+◌, ◌-◌, ◌/◌, ◌%◌, ◌^◌, ◌<◌, ◌≤◌, Bool, true, false, cond, ◌&&◌, ltb, List, [], ◌∷◌, ◌++◌, length, get_or, take, drop, set, Some, None, decimal, sym, refl, ap, ◌∙◌, append_assoc, arith, length-append, length-drop, length-set, rules}
-use Rattle.std.proofs.lemmas.Fmt.{decimal_digit, decimal_nonempty, decimal_step, decimal-digits_value, digits_decimal, first_decimal, length-decimal-le, digits_value-decimal}
-use Rattle.std.proofs.lemmas.List.{drop-set, take_all}
+-- The digits of a number are read back as the number, and no other bytes are.
+use Rattle.std.proofs.Common.{◌≡◌, ℕ, zero, suc, ◌^◌, ◌<◌, Bool, true, false, cond, ◌&&◌, ltb, List, [], ◌∷◌, length, get_or, Some, None, decimal, sym, refl, ap, ◌∙◌, arith, rules}
+use Rattle.std.proofs.lemmas.Fmt.{decimal_digit, decimal_nonempty, decimal-digits_value, digits_decimal, first_decimal, digits_value-decimal}
 use Rattle.std.proofs.lemmas.Str.Parse.{IsNumeralModel, numerals_by_fold, tells_all_ascii_digits}
 use Rattle.std.proofs.lemmas.Bool.{and_from, and_parts, cond-true, lt-ltb, ltb-true}
 use Rattle.std.specs.Str.{all_ascii_digits}
@@ -41,39 +40,3 @@ only n bs h =
     let all = and_parts (all_ascii_digits bs) (ltb value (2 ^ 64)) read.1 in
     let one : get_or bs 0 0 ≡ 48 → length bs ≡ 1 = λ e. ap length (h.first e) in
     sym (decimal-digits_value own bs all.0 (ltb-true 0 (length bs) read.0) one (ltb-true value (2 ^ 64) all.1)) ∙ ap decimal read.2
-
--- WRITTEN FROM THE LAST DIGIT ON
-
--- the digits from `at` on are written, and those of `left` are still to come
-module _
-    (n left at : ℕ) (digits : List ℕ) (small : n < 2 ^ 64)
-    (inv : (decimal n ≡ decimal left ++ drop at digits) × (at ≤ 20) × (length digits ≡ 20) × (left ≤ n)) where
-  pub room : 1 ≤ at
-  room =
-      let fits : left < 2 ^ 64 = omega (arith, inv.3) in
-      let lengths = simp (length-append, length-drop) at (ap length inv.0) in
-      omega (arith, length-decimal-le 20 n (omega arith) (omega arith) small, decimal_nonempty left fits, lengths, inv.1, inv.2)
-
-  one_more : (y : ℕ) → drop (at - 1) (set digits (at - 1) y) ≡ y ∷ drop at digits
-  one_more y =
-      let within : at - 1 < length digits = omega (arith, room, inv.1, inv.2) in
-      let same : at - 1 + 1 ≡ at = omega (arith, room) in
-      drop-set digits (at - 1) y within ∙ ap (λ k. y ∷ drop k digits) same
-
-  pub digit_more : 10 ≤ left → decimal n ≡ decimal (left / 10) ++ drop (at - 1) (set digits (at - 1) (48 + left % 10))
-  digit_more ten =
-      let fits : left < 2 ^ 64 = omega (arith, inv.3) in
-      let y = 48 + left % 10 in
-      inv.0
-      ∙ ap (λ ds. ds ++ drop at digits) (decimal_step left ten fits)
-      ∙ append_assoc (decimal (left / 10)) (y ∷ []) (drop at digits)
-      ∙ ap (λ ds. decimal (left / 10) ++ ds) (sym (one_more y))
-
-  pub digit_last : left < 10 → let written = set digits (at - 1) (48 + left) in take (20 - (at - 1)) (drop (at - 1) written) ≡ decimal n
-  digit_last ten =
-      let written = set digits (at - 1) (48 + left) in
-      let short : length (drop (at - 1) written) ≤ 20 - (at - 1) = simp (length-drop, length-set) (omega (arith, inv.2)) in
-      take_all (20 - (at - 1)) (drop (at - 1) written) short
-      ∙ one_more (48 + left)
-      ∙ sym (ap (λ ds. ds ++ drop at digits) (decimal_digit left ten))
-      ∙ sym inv.0

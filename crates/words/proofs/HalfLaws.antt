@@ -1,18 +1,25 @@
 -- Where a blank, a colon and a blank stand, and where they stand last.
-use Rattle.std.proofs.Common.{◌≡◌, ℕ, suc, ◌+◌, ◌-◌, ◌<◌, ◌≤◌, true, false, eqb, List, length, get_or, Some, sym, ap, ◌∙◌, ⊎_elim, arith}
-use Rattle.std.proofs.lemmas.List.{get_or_past}
-use Rattle.std.proofs.lemmas.Bool.{and_right, cases_lt, cond-true, cond-false, false≢true}
+use Rattle.std.proofs.Common.{◌≡◌, ℕ, suc, ◌-◌, ◌<◌, Bool, true, false, eqb, ◌&&◌, List, [], ◌∷◌, take, drop, Some, refl, ap, ◌∙◌, arith}
+use Rattle.std.specs.Cmp.Lexicographic.{pointwise}
+use Rattle.std.proofs.Math.Bool.{and-true}
+use Rattle.std.proofs.lemmas.List.{get_or-drop}
+use native.Mathlib.Numerals.{unary_clauses}
+use Rattle.std.proofs.lemmas.Bool.{cond-true, cond-false}
 use Rattle.words.specs.Halves.{last_below, parts_at}
 
--- Where fewer than three bytes are left they do not stand.
-pub no_third : (bytes : List ℕ) (i : ℕ) → length bytes ≤ i + 2 → parts_at bytes i ≡ false
-no_third bytes i h =
-    and_right (eqb (get_or bytes i 0) 32) _ (and_right (eqb (get_or bytes (i + 1) 0) 58) _ (ap (λ b. eqb b 32) (get_or_past bytes (i + 2) 0 h)))
+-- Bytes begin with them where they stand at the first place,
+abbrev pub begins_with : List ℕ → Bool
+begins_with xs = pointwise eqb (take 3 xs) (32 ∷ 58 ∷ 32 ∷ [])
 
--- Where they stand there are three bytes.
-pub three_there : (bytes : List ℕ) (i : ℕ) → parts_at bytes i ≡ true → i + 3 ≤ length bytes
-three_there bytes i is =
-    ⊎_elim (λ (h : i + 2 < length bytes). omega arith) (λ (h : length bytes ≤ i + 2). absurd (false≢true (sym (no_third bytes i h) ∙ is))) (cases_lt (i + 2) (length bytes))
+begins : (xs : List ℕ) → begins_with xs ≡ parts_at xs 0
+begins [] = refl
+begins (x ∷ []) = refl
+begins (x ∷ y ∷ []) = refl
+begins (x ∷ y ∷ z ∷ zs) = ap (λ b. eqb x 32 && (eqb y 58 && b)) (and-true (eqb z 32))
+
+-- and the bytes from a place on begin with them where they stand there.
+pub begins_at : (bytes : List ℕ) (i : ℕ) → begins_with (drop i bytes) ≡ parts_at bytes i
+begins_at bytes i = begins (drop i bytes) ∙ simp (get_or-drop, unary_clauses) refl
 
 -- Below the place behind i they stand last at i, if they do,
 last_at : (bytes : List ℕ) (i : ℕ) → parts_at bytes i ≡ true → last_below bytes (suc i) ≡ Some i

@@ -1,6 +1,6 @@
 -- How the number of a word comes out of its digits, one by one.
 use Rattle.std.proofs.Common.{◌≡◌, ℕ, ◌+◌, ◌-◌, ◌*◌, ◌^◌, ◌<◌, ◌≤◌, true, false, eqb, ltb, List, [], ◌∷◌, length, get_or, drop, Some, None, sym, ◌∙◌, arith}
-use Rattle.std.proofs.lemmas.List.{at_drop_more, at_drop_all}
+use Rattle.std.proofs.lemmas.List.{at_drop_more}
 use Rattle.std.proofs.lemmas.Bool.{eqb-false, lt-ltb, le-ltb, and_right, cond-false, cond-true}
 use Rattle.std.specs.Char.{is_ascii_digit}
 use Rattle.std.specs.Str.{all_ascii_digits}
@@ -14,9 +14,6 @@ value_ge n (b ∷ bs) = omega (arith, value_ge (n * 10 + (b - 48)) bs)
 on_digit : (n b : ℕ) (bs : List ℕ) → is_ascii_digit b ≡ true → number_on n (b ∷ bs) ≡ number_on (n * 10 + (b - 48)) bs
 on_digit n b bs e = rw e
 
-on_other : (n b : ℕ) (bs : List ℕ) → is_ascii_digit b ≡ false → number_on n (b ∷ bs) ≡ None
-on_other n b bs e = rw e
-
 on_large : (n : ℕ) (bs : List ℕ) → 2 ^ 64 ≤ n → number_on n bs ≡ None
 on_large n bs h =
     let large : 2 ^ 64 ≤ value_on n bs = omega (arith, value_ge n bs) in
@@ -29,15 +26,6 @@ module _ (word : List ℕ) (n i : ℕ) (full : false ≡ eqb (length word) 0) (i
       let some : 0 < length word = omega (arith, eqb-false (length word) 0 (sym full)) in
       inv ∙ sym (cond-true (ltb 0 (length word)) (number_on 0 word) None (lt-ltb 0 (length word) some))
 
-  pub more : i < length word → is_ascii_digit (get_or word i 0) ≡ true → number_on (n * 10 + (get_or word i 0 - 48)) (drop (i + 1) word) ≡ number_on 0 word
-  more h e = sym (on_digit n (get_or word i 0) (drop (i + 1) word) e) ∙ sym (at_drop_more (number_on n) word i 0 h) ∙ inv
-
-  pub other : i < length word → is_ascii_digit (get_or word i 0) ≡ false → None ≡ number_of word
-  other h e = sym (on_other n (get_or word i 0) (drop (i + 1) word) e) ∙ sym (at_drop_more (number_on n) word i 0 h) ∙ whole
-
   pub large : i < length word → is_ascii_digit (get_or word i 0) ≡ true → 2 ^ 64 ≤ n * 10 + (get_or word i 0 - 48) → None ≡ number_of word
   large h e l =
       sym (on_large _ (drop (i + 1) word) l) ∙ sym (on_digit n (get_or word i 0) (drop (i + 1) word) e) ∙ sym (at_drop_more (number_on n) word i 0 h) ∙ whole
-
-  pub end : length word ≤ i → n < 2 ^ 64 → Some n ≡ number_of word
-  end h fits = sym (cond-true (ltb n (2 ^ 64)) (Some n) None (lt-ltb n (2 ^ 64) fits)) ∙ sym (at_drop_all (number_on n) word i h) ∙ whole

@@ -27,12 +27,7 @@ impl<'a> Lines<'a> {
 fn line_len(text: &[u8]) -> usize
     ensures { result ≡ prefix_len in_line text.now }
 {
-    for (i, b) in text.iter().enumerate() {
-        if *b == b'\n' {
-            return i;
-        }
-    }
-    text.len()
+    text.iter().take_while(|b| **b != b'\n').count()
 }
 
 // The lines in their order. Each that is read leaves fewer bytes, so they come to an end.

@@ -41,24 +41,14 @@ fn is_blank(b: u8) -> bool
 fn blanks_len(line: &[u8]) -> usize
     ensures { result ≡ prefix_len blank line.now }
 {
-    for (i, b) in line.iter().enumerate() {
-        if !is_blank(*b) {
-            return i;
-        }
-    }
-    line.len()
+    line.iter().take_while(|b| is_blank(**b)).count()
 }
 
 // How many bytes of the line stand before its first blank or tab.
 fn word_len(line: &[u8]) -> usize
     ensures { result ≡ prefix_len in_word line.now }
 {
-    for (i, b) in line.iter().enumerate() {
-        if is_blank(*b) {
-            return i;
-        }
-    }
-    line.len()
+    line.iter().take_while(|b| !is_blank(**b)).count()
 }
 
 // The words in their order. Each that is read leaves fewer bytes, so they come to an end.

@@ -5,6 +5,3 @@ use Rattle.words.proofs.split_halves.part_in_two.Given as goal
 
 abbrev pub invariant-loop-i : goal.invariant-loop-i
 invariant-loop-i l = (l.i ≤ length l.bytes) × (last_below l.bytes (length l.bytes) ≡ last_below l.bytes l.i)
-
-abbrev pub decreases-loop-i : goal.decreases-loop-i
-decreases-loop-i l = l.i

@@ -2,17 +2,12 @@
 use Rattle.std.proofs.Common.{◌≡◌, ◌<◌, ◌≤◌, length, drop, sym, ap, ◌∙◌, arith, rules}
 use Rattle.std.proofs.lemmas.List.{nil_from_length, drop_all}
 use Rattle.std.proofs.lemmas.List.Sums.{prefix_len-le-length}
-use Rattle.std.proofs.lemmas.Bool.{eqb-true, eqb-false}
+use Rattle.std.proofs.lemmas.Bool.{eqb-false}
 use Rattle.words.specs.Lines.{in_line}
-use Rattle.words.proofs.LineLaws.{read_none, read_line}
+use Rattle.words.proofs.LineLaws.{read_line}
 use Rattle.words.proofs.split_lines.LinesIterator.next.Goals as goal
 use Rattle.words.proofs.split_lines.LinesIterator.next.Goals.{in-Some, in-None}
 use Rattle.std.proofs.iter.Next.{firm}
-
-pub returns-then-is_empty : goal.returns-then-is_empty
-returns-then-is_empty c =
-    let text = c.args.self.now.rest.now in
-    record { steps = read_none text (eqb-true (length text) 0 (sym c.if-is_empty.ensures)); goes = firm (tt) (λ h. search rules) }
 
 pub split_at-requires : goal.split_at-requires
 split_at-requires c = omega (arith, prefix_len-le-length in_line c.args.self.now.rest.now)
