@@ -1,5 +1,5 @@
 -- What the making of a pair shows: with the counts of its parts it means the joined vocabulary, which is granted.
-use Rattle.std.proofs.Common.{◌≡◌, ℕ, ◌+◌, ◌*◌, ◌≤◌, Ok, Result, sym, ap, subst}
+use Rattle.std.proofs.Common.{◌≡◌, ℕ, ◌+◌, ◌*◌, ◌≤◌, Ok, Result, sym, ap, ◌∙◌, subst}
 use Rattle.std.proofs.lemmas.Bool.{le-leb, and_from}
 use Rattle.vocabulary.specs.declared.fault.VocabularyFault.{VocabularyFault}
 use Rattle.vocabulary.specs.Meaning.{VocabularyMeaning, Lawful}
@@ -23,12 +23,12 @@ joined_paired first second l most few = record {
   one_of_each = joins_each first second l;
 }
 
--- The counts a, w, f and t, asked of the two parts, make the joined vocabulary.
-pub paired : (first second : VocabularyMeaning) (a w f t : ℕ) → a ≡ first.situations → w ≡ second.situations → f ≡ first.tests → t ≡ second.tests → Lawful second → a * w ≤ 64 → f + t ≤ 32 → Paired first second (beside (a * w) (f + t) f w first second)
-paired first second a w f t ea ew ef et l most few =
-    let all : a * w ≡ first.situations * second.situations = λ i. ea i * ew i in
+-- The counts a, w, f and t, asked of the two parts, and the situations n that they have together, make the joined vocabulary.
+pub paired : (first second : VocabularyMeaning) (n a w f t : ℕ) → n ≡ a * w → a ≡ first.situations → w ≡ second.situations → f ≡ first.tests → t ≡ second.tests → Lawful second → n ≤ 64 → f + t ≤ 32 → Paired first second (beside n (f + t) f w first second)
+paired first second n a w f t en ea ew ef et l most few =
+    let all : n ≡ first.situations * second.situations = en ∙ λ i. ea i * ew i in
     let both : f + t ≡ first.tests + second.tests = λ i. ef i + et i in
-    let same : joined first second ≡ beside (a * w) (f + t) f w first second =
-    sym (λ i. beside (ea i * ew i) (ef i + et i) (ef i) (ew i) first second) in
+    let same : joined first second ≡ beside n (f + t) f w first second =
+    sym (λ i. beside (all i) (both i) (ef i) (ew i) first second) in
     subst (λ whole. Paired first second whole) same
     (joined_paired first second l (subst (λ n. n ≤ 64) all most) (subst (λ n. n ≤ 32) both few))

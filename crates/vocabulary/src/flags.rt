@@ -5,9 +5,10 @@ ghost use Rattle.vocabulary.specs.Flags.{flags, flags_lawful};
 
 use crate::Vocabulary;
 use crate::fault::VocabularyFault;
+use masks::has;
 
 // How many facts there may be.
-const MOST_FACTS: u64 = 6;
+const MOST_FACTS: u8 = 6;
 
 // Up to six facts, each true or false on its own.
 #[derive(Clone, Copy)]
@@ -23,10 +24,9 @@ impl Flags {
     pub fn new(facts: u64) -> Result<Flags, VocabularyFault>
         ensures meaning { meant (λ v. flags v.facts) result ≡ granted_if (nat_le facts 6) (flags facts) }
     {
-        if facts <= MOST_FACTS {
-            Ok(Flags { facts: facts as u8 })
-        } else {
-            Err(VocabularyFault::BeyondLimits)
+        match u8::try_from(facts) {
+            Ok(facts) if facts <= MOST_FACTS => Ok(Flags { facts }),
+            _ => Err(VocabularyFault::BeyondLimits),
         }
     }
 }
@@ -45,6 +45,6 @@ impl Vocabulary for Flags {
     }
 
     fn holds(&self, test: u8, situation: u8) -> bool {
-        test < self.facts && situation < self.situations() && (situation >> test) % 2 == 1
+        test < self.facts && situation < self.situations() && has(u64::from(situation), test)
     }
 }

@@ -7,7 +7,7 @@ use crate::Vocabulary;
 use crate::fault::VocabularyFault;
 
 // How many stages there may be.
-const MOST_STAGES: u64 = 33;
+const MOST_STAGES: u8 = 33;
 
 // From 1 to 33 stages in a row.
 #[derive(Clone, Copy)]
@@ -25,12 +25,9 @@ impl Scale {
     pub fn new(stages: u64) -> Result<Scale, VocabularyFault>
         ensures meaning { meant (λ v. scale v.stages) result ≡ granted_if (nat_le 1 stages && nat_le stages 33) (scale stages) }
     {
-        if 1 <= stages && stages <= MOST_STAGES {
-            Ok(Scale {
-                stages: stages as u8,
-            })
-        } else {
-            Err(VocabularyFault::BeyondLimits)
+        match u8::try_from(stages) {
+            Ok(stages) if 1 <= stages && stages <= MOST_STAGES => Ok(Scale { stages }),
+            _ => Err(VocabularyFault::BeyondLimits),
         }
     }
 }

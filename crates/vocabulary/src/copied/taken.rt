@@ -6,6 +6,7 @@ ghost use Rattle.vocabulary.specs.Masks.{mask_of};
 
 use crate::Vocabulary;
 use crate::copied::{Copied, MASKS};
+use masks::has;
 
 // The situations of a vocabulary in which a test holds, a bit for each.
 fn mask_of<V: Vocabulary>(v: &V, test: u8) -> u64
@@ -29,7 +30,7 @@ impl Copied {
         let tests = v.tests();
         let mut masks = [0; MASKS];
         for t in 0..tests {
-            masks[t as usize] = mask_of(v, t);
+            masks[usize::from(t)] = mask_of(v, t);
         }
         Copied {
             situations,
@@ -44,7 +45,7 @@ impl Copied {
         ensures each_bit_says_where_the_test_holds { (s : ℕ) → bit s result ≡ (copied_meaning self.now).holds test s }
     {
         if test < self.tests {
-            self.masks[test as usize]
+            self.masks[usize::from(test)]
         } else {
             0
         }
@@ -65,6 +66,6 @@ impl Vocabulary for Copied {
     }
 
     fn holds(&self, test: u8, situation: u8) -> bool {
-        situation < self.situations && (self.mask(test) >> situation) % 2 == 1
+        situation < self.situations && has(self.mask(test), situation)
     }
 }

@@ -9,7 +9,7 @@ use crate::fault::VocabularyFault;
 use crate::pair::Pair;
 
 // How many situations there may be.
-const MOST_SITUATIONS: u16 = 64;
+const MOST_SITUATIONS: u8 = 64;
 
 // How many tests there may be.
 const MOST_TESTS: u8 = 32;
@@ -23,19 +23,17 @@ impl<V: Vocabulary + Drop, W: Vocabulary + Drop> Pair<V, W> {
     {
         let firsts = first.tests();
         let width = second.situations();
-        let situations = first.situations() as u16 * width as u16;
         let tests = firsts + second.tests();
-        if situations <= MOST_SITUATIONS && tests <= MOST_TESTS {
-            Ok(Pair {
+        match first.situations().checked_mul(width) {
+            Some(situations) if situations <= MOST_SITUATIONS && tests <= MOST_TESTS => Ok(Pair {
                 first,
                 second,
-                situations: situations as u8,
+                situations,
                 tests,
                 firsts,
                 width,
-            })
-        } else {
-            Err(VocabularyFault::BeyondLimits)
+            }),
+            _ => Err(VocabularyFault::BeyondLimits),
         }
     }
 }
