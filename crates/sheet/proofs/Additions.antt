@@ -1,24 +1,11 @@
--- What the checks of naming give, one after the other. Serves the two calls that add a name.
-use Rattle.std.proofs.Common.{◌≡◌, ℕ, ◌<◌, ◌≤◌, Bool, true, false, cond, List, [], ◌∷◌, ◌++◌, map, length, Some, None, Ok, Err, vec_items, vec_len, Option, Result, Vec, sym, refl, ap, ◌∙◌, arith}
-use lib.ListN.{length-map}
-use Rattle.std.specs.declared.alloc.Global.{Global}
-use Rattle.std.proofs.lemmas.List.{map_push}
-use Rattle.std.proofs.lemmas.Bool.{cond-true, cond-false, le-leb, lt-leb}
+-- What the names on a sheet are after a name was given a number, or was not. Serves the two calls that add a name.
+use Rattle.std.proofs.Common.{◌≡◌, ℕ, Bool, true, false, cond, List, [], ◌∷◌, ◌++◌, is_ok, Some, None, Ok, Err, Option, Result, sym, refl, subst, arith}
 use Rattle.signs.specs.Names.{is_name}
-use Rattle.sheet.specs.Naming.{NameList, found, free, free_unless, fresh, next_of}
-use Rattle.sheet.specs.Spelling.{bytes_of}
+use Rattle.sheet.specs.Naming.{EachActionFound, EachTestFound, NameList, found, free, free_unless, fresh}
 use Rattle.sheet.specs.declared.fault.NameFault.{NameFault}
-use Rattle.sheet.specs.declared.fault.NameFault.TheVariants.{NotAName, AllNamed}
-use Rattle.sheet.specs.declared.name.Name.{Name}
+use Rattle.sheet.specs.declared.fault.NameFault.TheVariants.{NotAName}
 use Rattle.sheet.specs.declared.named.Named.{Named}
-
--- the last check refuses where all have their names
-pub all_named : (all : ℕ) (names : List (List ℕ)) (name : List ℕ) (checked : Result (List ℕ) NameFault) → Ok name ≡ checked → all ≤ length names → Err AllNamed ≡ next_of all names checked
-all_named all names name checked e h = sym (cond-true _ _ _ (le-leb all (length names) h)) ∙ ap (next_of all names) e
-
--- and else gives the next number
-pub next_number : (all : ℕ) (names : List (List ℕ)) (name : List ℕ) (checked : Result (List ℕ) NameFault) → Ok name ≡ checked → length names < all → Ok (length names) ≡ next_of all names checked
-next_number all names name checked e h = sym (cond-false _ _ _ (lt-leb all (length names) h)) ∙ ap (next_of all names) e
+use Rattle.sheet.proofs.Found.{action_added, test_added}
 
 -- a name that passes is free, and is what was given
 passed_free : (r : Option Named) (name bytes : List ℕ) → Ok name ≡ free_unless r bytes → (r ≡ None) × (name ≡ bytes)
@@ -29,14 +16,25 @@ passed_name : (names : NameList) (name bytes : List ℕ) (is : Bool) → Ok name
 passed_name names name bytes true e = passed_free (found names bytes) name bytes e
 passed_name names name bytes false e = let z : ◌≡◌ {A = ℕ} 0 1 = cc in absurd (omega arith)
 
--- a name that passes the first two checks names nothing yet, and has the bytes that were given
-pub fresh_passed : (names : NameList) (name bytes : List ℕ) → Ok name ≡ fresh names bytes → (found names bytes ≡ None) × (name ≡ bytes)
-fresh_passed names name bytes e = passed_name names name bytes (is_name bytes) e
+-- a name that passes the first two checks names nothing yet
+fresh_is_free : (names : NameList) (name bytes : List ℕ) → Ok name ≡ fresh names bytes → found names name ≡ None
+fresh_is_free names name bytes e =
+    let passed = passed_name names name bytes (is_name bytes) e in
+    subst (λ bs. found names bs ≡ None) (sym passed.1) passed.0
 
--- one more name in a list of names
-pub one_more : (items after : List Name) (name : Name) (bytes : List ℕ) → after ≡ items ++ name ∷ [] → bytes_of name ≡ bytes → map bytes_of after ≡ map bytes_of items ++ bytes ∷ []
-one_more items after name bytes pushed spelled = ap (map bytes_of) pushed ∙ map_push bytes_of items name ∙ ap (λ b. map bytes_of items ++ b ∷ []) spelled
+-- each test and each action is found under its number
+abbrev EachFound : NameList → Type 0
+EachFound names = EachTestFound names × EachActionFound names
 
--- a list of names is as long as its vector says
-pub as_long : (names : Vec Name Global) → vec_len names ≡ length (map bytes_of (vec_items names))
-as_long names = names.ok.0 ∙ sym (length-map (vec_items names) bytes_of)
+module _ (names : NameList) (name bytes : List ℕ) where
+  pub found_after_test : (r : Result ℕ NameFault) (after : List (List ℕ)) → Ok name ≡ fresh names bytes → after ≡ cond (is_ok r) (names.tests ++ name ∷ []) names.tests → EachTestFound names → EachActionFound names → EachFound (record { tests = after; actions = names.actions })
+  found_after_test (Ok n) after passed is tests actions =
+      subst (λ xs. EachFound (record { tests = xs; actions = names.actions })) (sym is) (test_added names name (fresh_is_free names name bytes passed) tests actions)
+  found_after_test (Err fault) after passed is tests actions =
+      subst (λ xs. EachFound (record { tests = xs; actions = names.actions })) (sym is) (tests, actions)
+
+  pub found_after_action : (r : Result ℕ NameFault) (after : List (List ℕ)) → Ok name ≡ fresh names bytes → after ≡ cond (is_ok r) (names.actions ++ name ∷ []) names.actions → EachTestFound names → EachActionFound names → EachFound (record { tests = names.tests; actions = after })
+  found_after_action (Ok n) after passed is tests actions =
+      subst (λ xs. EachFound (record { tests = names.tests; actions = xs })) (sym is) (action_added names name (fresh_is_free names name bytes passed) tests actions)
+  found_after_action (Err fault) after passed is tests actions =
+      subst (λ xs. EachFound (record { tests = names.tests; actions = xs })) (sym is) (tests, actions)

@@ -1,3 +1,2 @@
 pub mod Additions
-pub mod Few
 pub mod Found

@@ -2,7 +2,7 @@
 use Rattle.std.specs.Prelude.{◌≡◌, ℕ, ◌<◌, Bool, true, false, cond, List, [], ◌∷◌, ◌++◌, length, Some, None, Ok, Err, Option, Result, ◌==◌, nat_le, slice_index_or}
 use Rattle.std.specs.Option.{option_map}
 use Rattle.std.specs.Str.{bytes_eq}
-use Rattle.keys.specs.Keys.{first_at}
+use Rattle.std.specs.List.{position}
 use Rattle.sheet.specs.Spelling.{name_from}
 use Rattle.sheet.specs.declared.fault.NameFault.{NameFault}
 use Rattle.sheet.specs.declared.fault.NameFault.TheVariants.{AlreadyNamed, AllNamed}
@@ -25,7 +25,7 @@ or_else (Some x) other = Some x
 
 -- The number of a name in a list of names.
 abbrev pub number_in : List (List ℕ) → List ℕ → Option ℕ
-number_in names name = first_at (λ other. bytes_eq other name) names
+number_in names name = position (λ other. bytes_eq other name) names
 
 -- What a name names: a test, or else an action, or nothing.
 abbrev pub found : NameList → List ℕ → Option Named

@@ -8,6 +8,7 @@ mod name;
 mod named;
 mod names;
 mod naming;
+mod numbered;
 mod sheet;
 mod spelling;
 

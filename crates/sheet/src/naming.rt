@@ -1,45 +1,26 @@
 // Finding a name again, and adding one.
-ghost use Rattle.std.specs.Prelude.{◌≡◌, ◌<◌, ◌≤◌, [], map, length, IfSome, is_ok, IfOk, if◌then◌else◌, slice_index_or};
+ghost use Rattle.std.specs.Prelude.{◌≡◌, ◌≤◌, [], length, is_ok, IfOk, if◌then◌else◌, slice_index_or};
 ghost use Rattle.sheet.specs.Held.{names_of};
-ghost use Rattle.sheet.specs.Naming.{action_number, found, fresh, meaning_of, no_names, number_in, test_number, with_action, with_test};
+ghost use Rattle.sheet.specs.Naming.{action_number, found, fresh, meaning_of, no_names, test_number, with_action, with_test};
 ghost use Rattle.sheet.specs.Spelling.{bytes_of, spelling};
 
 use crate::fault::NameFault;
 use crate::name::Name;
 use crate::named::Named;
 use crate::names::Names;
-use keys::find;
+use crate::numbered::Numbered;
 use std::alloc::{AllocError, Global};
 
 // How many actions there may be.
-const MOST_ACTIONS: usize = 16;
-
-// The number of a name in a list of names.
-fn number_in(names: &[Name], name: &Name) -> Option<usize>
-    ensures value { result ≡ number_in (map bytes_of names.now) (bytes_of name.now) }
-    ensures within { IfSome result (λ i. i < length names.now) }
-{
-    find(names, name)
-}
-
-// The bytes of the name at a place of a list; none behind its end.
-fn name_at(names: &[Name], i: usize) -> &[u8]
-    ensures { result.now ≡ slice_index_or (map bytes_of names.now) i [] }
-{
-    if i < names.len() {
-        names[i].as_bytes()
-    } else {
-        b""
-    }
-}
+const MOST_ACTIONS: u8 = 16;
 
 impl Names {
     // No names yet, with memory for all.
     pub fn none(heap: Global) -> Result<Names, AllocError>
         ensures { IfOk result (λ names. names_of names ≡ no_names) }
     {
-        let tests = Vec::with_capacity(heap, 32)?;
-        let actions = Vec::with_capacity(heap, 16)?;
+        let tests = Numbered::none(heap)?;
+        let actions = Numbered::none(heap)?;
         Ok(Names { tests, actions })
     }
 
@@ -47,40 +28,37 @@ impl Names {
     pub fn tests(&self) -> u8
         ensures { result ≡ length (names_of self.now).tests }
     {
-        self.tests.len() as u8
+        self.tests.len()
     }
 
     // How many actions are named.
     pub fn actions(&self) -> u8
         ensures { result ≡ length (names_of self.now).actions }
     {
-        self.actions.len() as u8
+        self.actions.len()
     }
 
     // The name of a test, which has no bytes where the test is not named.
     pub fn test_name(&self, test: u8) -> &[u8]
         ensures { result.now ≡ slice_index_or (names_of self.now).tests test [] }
     {
-        name_at(&self.tests, test as usize)
+        self.tests.name(test)
     }
 
     // The name of an action, which has no bytes where the action is not named.
     pub fn action_name(&self, action: u8) -> &[u8]
         ensures { result.now ≡ slice_index_or (names_of self.now).actions action [] }
     {
-        name_at(&self.actions, action as usize)
+        self.actions.name(action)
     }
 
     // What the name names, if anything.
     pub fn find(&self, name: &Name) -> Option<Named>
         ensures { result ≡ found (names_of self.now) (bytes_of name.now) }
     {
-        if let Some(i) = number_in(&self.tests, name) {
-            return Some(Named::Test(i as u8));
-        }
-        match number_in(&self.actions, name) {
-            Some(i) => Some(Named::Action(i as u8)),
-            None => None,
+        match self.tests.number(name) {
+            Some(test) => Some(Named::Test(test)),
+            None => self.actions.number(name).map(Named::Action),
         }
     }
 
@@ -88,10 +66,8 @@ impl Names {
     pub fn meaning(&self, bytes: &[u8]) -> Option<Named>
         ensures { result ≡ meaning_of (names_of self.now) bytes.now }
     {
-        match Name::new(bytes) {
-            Ok(name) => self.find(&name),
-            Err(_) => None,
-        }
+        let name = Name::new(bytes).ok()?;
+        self.find(&name)
     }
 
     // The bytes as a name that names nothing yet.
@@ -112,12 +88,7 @@ impl Names {
         ensures after { names_of self.new ≡ (if is_ok result then with_test (names_of self.old) bytes.now else names_of self.old) }
     {
         let name = self.fresh(bytes)?;
-        let number = self.tests.len();
-        if number >= all as usize {
-            return Err(NameFault::AllNamed);
-        }
-        self.tests.push_reserved(name);
-        Ok(number as u8)
+        self.tests.add(name, all)
     }
 
     // Names the next action, and answers its number.
@@ -126,11 +97,6 @@ impl Names {
         ensures after { names_of self.new ≡ (if is_ok result then with_action (names_of self.old) bytes.now else names_of self.old) }
     {
         let name = self.fresh(bytes)?;
-        let number = self.actions.len();
-        if number >= MOST_ACTIONS {
-            return Err(NameFault::AllNamed);
-        }
-        self.actions.push_reserved(name);
-        Ok(number as u8)
+        self.actions.add(name, MOST_ACTIONS)
     }
 }

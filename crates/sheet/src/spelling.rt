@@ -1,10 +1,12 @@
 // Making a name of bytes, reading it back, and its sameness.
-ghost use Rattle.std.specs.Prelude.{◌≡◌, Bool, ◌&&◌};
-ghost use Rattle.sheet.specs.Spelling.{bytes_of, name_from, name_laws, same_name, spelling};
+ghost use Rattle.std.specs.Prelude.{◌≡◌};
+ghost use Rattle.std.proofs.Common.{rules};
+ghost use Rattle.std.specs.Cmp.Rules.{comparing};
+ghost use Rattle.sheet.specs.Spelling.{bytes_of, name_from, same_name, spelling};
 
 use crate::fault::NameFault;
 use crate::name::Name;
-use keys::{Key, Keyed};
+use keys::Keyed;
 use signs::is_name;
 
 impl Name {
@@ -28,19 +30,23 @@ impl Name {
     pub fn as_bytes(&self) -> &[u8]
         ensures { result.now ≡ bytes_of self.now }
     {
-        &self.bytes[0..self.len as usize]
+        &self.bytes[0..usize::from(self.len)]
     }
 }
 
-// Two names are the same where their bytes are.
-impl Key for Name {
-    ghost same = { same_name };
+// Two names are the same where their bytes are, whatever stands behind them.
+impl PartialEq for Name {
+    ghost eq = { same_name };
 
-    ghost laws = { name_laws };
+    ghost laws = { Prim.search (comparing, rules) };
 
-    fn is_same(&self, other: &Name) -> bool {
+    fn eq(&self, other: &Name) -> bool {
         self.as_bytes() == other.as_bytes()
     }
+}
+
+impl Eq for Name {
+    ghost laws = { Prim.search (comparing, rules) };
 }
 
 // In a list of names each is its own key.

@@ -1,50 +1,11 @@
-use Rattle.std.proofs.Common.{◌≡◌, length, Ok, vec_items, vec_len, sym, refl, ap, ◌∙◌, subst, arith}
+-- Each test and each action is still found when a free name was added.
 use Rattle.sheet.specs.Held.{names_of}
-use Rattle.sheet.specs.Naming.{EachActionFound, EachTestFound, fresh}
 use Rattle.sheet.specs.Spelling.{bytes_of}
-use Rattle.sheet.proofs.Additions.{all_named, as_long, fresh_passed, next_number, one_more}
-use Rattle.sheet.proofs.Found.{action_added}
+use Rattle.sheet.proofs.Additions.{found_after_action}
 use Rattle.sheet.proofs.names.Names.add_action.Goals as goal
 
-pub returns-then-number-ge-MOST_ACTIONS : goal.returns-then-number-ge-MOST_ACTIONS
-returns-then-number-ge-MOST_ACTIONS c =
-    let before = names_of c.args.self.now in
-    let names = c.args.self.now.actions in
-    let long : vec_len names ≡ length before.actions = as_long names in
-    record { answer = all_named 16 before.actions _ _ c.in_ok-name.ensures (omega arith); after = refl }
-
-pub invariant_of-self-clause-each_test_found : goal.invariant_of-self-clause-each_test_found
-invariant_of-self-clause-each_test_found c =
-    let before = names_of c.args.self.now in
-    let bytes = c.args.bytes.now in
-    let name = c.in_ok-name.name in
-    let passed = fresh_passed before (bytes_of name) bytes c.in_ok-name.ensures in
-    let more = action_added before bytes passed.0 c.args.self.now.each_test_found c.args.self.now.each_action_found in
-    let is = one_more (vec_items c.args.self.now.actions) _ name bytes c.push_reserved.ensures.items passed.1 in
-    subst (λ xs. EachTestFound (record { actions = xs; tests = before.tests })) (sym is) more.0
-
-pub invariant_of-self-clause-each_action_found : goal.invariant_of-self-clause-each_action_found
-invariant_of-self-clause-each_action_found c =
-    let before = names_of c.args.self.now in
-    let bytes = c.args.bytes.now in
-    let name = c.in_ok-name.name in
-    let passed = fresh_passed before (bytes_of name) bytes c.in_ok-name.ensures in
-    let more = action_added before bytes passed.0 c.args.self.now.each_test_found c.args.self.now.each_action_found in
-    let is = one_more (vec_items c.args.self.now.actions) _ name bytes c.push_reserved.ensures.items passed.1 in
-    subst (λ xs. EachActionFound (record { actions = xs; tests = before.tests })) (sym is) more.1
-
-pub returns : goal.returns
-returns c =
-    let before = names_of c.args.self.now in
-    let names = c.args.self.now.actions in
-    let bytes = c.args.bytes.now in
-    let name = c.in_ok-name.name in
-    let checked : Ok (bytes_of name) ≡ fresh before bytes = c.in_ok-name.ensures in
-    let long : vec_len names ≡ length before.actions = as_long names in
-    let is : c.len-number.result ≡ length before.actions = c.len-number.ensures ∙ long in
-    record {
-      answer = ap Ok is ∙ next_number 16 before.actions _ _ checked (omega arith);
-      after =
-          ap (λ xs. record { actions = xs; tests = before.tests })
-          (one_more (vec_items names) _ name bytes c.push_reserved.ensures.items (fresh_passed before (bytes_of name) bytes checked).1);
-    }
+pub invariant_of-self : goal.invariant_of-self
+invariant_of-self c =
+    let names = c.args.self.now in
+    let kept = found_after_action (names_of names) (bytes_of c.in_ok-name.name) c.args.bytes.now c.add.result _ c.in_ok-name.ensures c.add.ensures.after names.each_test_found names.each_action_found in
+    record { each_test_found = kept.0; each_action_found = kept.1 }

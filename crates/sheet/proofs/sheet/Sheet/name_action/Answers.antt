@@ -1,11 +1,7 @@
 use Rattle.std.proofs.Common.{rules}
 use Rattle.sheet.specs.Held.{names_of}
-use Rattle.sheet.proofs.Few.{few_after_action}
 use Rattle.sheet.proofs.Found.{found_under_number}
 use Rattle.sheet.proofs.sheet.Sheet.name_action.Goals as goal
-
-pub invariant_of-self : goal.invariant_of-self
-invariant_of-self c = record { few_tests = few_after_action (names_of c.args.self.now.names) _ _ c.args.name.now c.add_action.result c.add_action.ensures.after c.args.self.now.few_tests }
 
 pub returns : goal.returns
 returns c =

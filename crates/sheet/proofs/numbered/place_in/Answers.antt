@@ -3,7 +3,7 @@ use Rattle.std.specs.Str.{bytes_eq}
 use Rattle.keys.specs.Keys.{Earliest}
 use Rattle.keys.proofs.Firsts.{first_of_made}
 use Rattle.sheet.specs.Spelling.{bytes_of}
-use Rattle.sheet.proofs.naming.number_in.Goals as goal
+use Rattle.sheet.proofs.numbered.place_in.Goals as goal
 
 -- what was found lies in the list
 inside : {X : Type 0} (test : X → Bool) (xs : List X) (r : Option ℕ) → Earliest test xs r → IfSome r (λ i. i < length xs)
