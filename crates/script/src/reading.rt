@@ -14,7 +14,7 @@ use words::{Words, text_behind};
 fn is_comment(first: &[u8]) -> bool
     ensures { result ≡ is_comment first.now }
 {
-    first.len() > 0 && first[0] == b'#'
+    first.starts_with(b"#")
 }
 
 // The words as parts of a vocabulary, a kind and a number each.
@@ -40,10 +40,9 @@ fn only_word<'a>(rest: &'a [u8]) -> Option<&'a [u8]>
     ensures { option_map (λ x. x.now) result ≡ only_word (words_of rest.now) }
 {
     let mut words = Words::new(rest);
-    let only = words.next()?;
-    match words.next() {
-        Some(_) => None,
-        None => Some(only),
+    match (words.next(), words.next()) {
+        (Some(only), None) => Some(only),
+        _ => None,
     }
 }
 
@@ -51,11 +50,7 @@ fn only_word<'a>(rest: &'a [u8]) -> Option<&'a [u8]>
 fn no_word(rest: &[u8]) -> bool
     ensures { result ≡ is_nil (words_of rest.now) }
 {
-    let mut words = Words::new(rest);
-    match words.next() {
-        Some(_) => false,
-        None => true,
-    }
+    Words::new(rest).next().is_none()
 }
 
 // The call that a first word asks for, of the bytes behind it; none where they do not fit it.
@@ -67,39 +62,14 @@ fn command<'a>(
     ensures { IfOk result (λ c. option_map call_of c ≡ call_from keyword rest.now) }
 {
     match keyword {
-        Keyword::Vocabulary => {
-            let Some(parts) = parts(heap, rest)? else {
-                return Ok(None);
-            };
-            if parts.is_empty() {
-                return Ok(None);
-            }
-            Ok(Some(Command::Vocabulary(parts)))
-        }
-        Keyword::Test => {
-            let Some(name) = only_word(rest) else {
-                return Ok(None);
-            };
-            Ok(Some(Command::Test(name)))
-        }
-        Keyword::Action => {
-            let Some(name) = only_word(rest) else {
-                return Ok(None);
-            };
-            Ok(Some(Command::Action(name)))
-        }
-        Keyword::Open => {
-            if !no_word(rest) {
-                return Ok(None);
-            }
-            Ok(Some(Command::Open))
-        }
-        Keyword::Read => {
-            let Some(text) = text_behind(rest) else {
-                return Ok(None);
-            };
-            Ok(Some(Command::Read(text)))
-        }
+        Keyword::Vocabulary => match parts(heap, rest)? {
+            Some(parts) if !parts.is_empty() => Ok(Some(Command::Vocabulary(parts))),
+            _ => Ok(None),
+        },
+        Keyword::Test => Ok(only_word(rest).map(Command::Test)),
+        Keyword::Action => Ok(only_word(rest).map(Command::Action)),
+        Keyword::Open => Ok(no_word(rest).then_some(Command::Open)),
+        Keyword::Read => Ok(text_behind(rest).map(Command::Read)),
     }
 }
 

@@ -2,10 +2,11 @@
 
 #![tactic(auto)]
 
-ghost use Rattle.std.specs.Prelude.{decimal, OnOk};
+ghost use Rattle.std.specs.Prelude.{decimal, IfSome, OnOk};
 ghost use Rattle.texts.specs.Adds.{Adds};
 
 use std::alloc::AllocError;
+use std::fmt::Display;
 use words::push_decimal;
 
 // Bytes as they are.
@@ -14,6 +15,14 @@ pub fn put(out: &mut Vec<u8>, bytes: &[u8]) -> Result<(), AllocError>
 {
     out.extend_from_slice(bytes)?;
     Ok(())
+}
+
+// What a value shows.
+pub fn put_shown<D: Display + Drop>(out: &mut Vec<u8>, value: D) -> Result<(), AllocError>
+    ensures what_it_shows { OnOk result (IfSome (D.output value) (λ text. Adds text out.old.items out.new.items)) }
+{
+    let text = value.to_string(*out.allocator())?;
+    out.extend_from_slice(text.as_bytes())
 }
 
 // A number in digits.
