@@ -1,21 +1,8 @@
 // Elements that carry more than their key, two of them with the same one.
-ghost use Rattle.std.specs.Prelude.{◌==◌};
-ghost use Rattle.keys.specs.Marks.{by_number};
+use crate::{Keyed, find};
 
-use crate::{Key, Keyed, find};
-
-#[derive(Clone, Copy)]
+#[derive(Clone, Copy, PartialEq, Eq)]
 struct Letter(u8);
-
-impl Key for Letter {
-    ghost same = { λ x y. (x.0 == y.0) };
-
-    ghost laws = { by_number (λ x. x.0) };
-
-    fn is_same(&self, other: &Letter) -> bool {
-        self.0 == other.0
-    }
-}
 
 #[derive(Clone, Copy)]
 struct Drawer {
