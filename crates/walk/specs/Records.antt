@@ -1,6 +1,7 @@
 -- Pairs and records of the code, as the walk's definitions have them.
 use Rattle.std.specs.Prelude.{ℕ, ◌-◌, List, ◌++◌, map, length, replicate}
 use Rattle.runs.specs.Pairs as pairs
+use Rattle.runs.specs.Runs.{Move}
 use Rattle.runs.specs.Walks.{Listed}
 use Rattle.walk.specs.declared.pair.CodePair.{CodePair}
 use Rattle.walk.specs.declared.record.PairRecord.{PairRecord}
@@ -8,6 +9,10 @@ use Rattle.walk.specs.declared.record.PairRecord.{PairRecord}
 -- A pair of the code, by its two codes.
 abbrev pub pair_of : CodePair → pairs.Pair
 pair_of p = record { left = p.left; right = p.right }
+
+-- The move of a situation and an action.
+abbrev pub move_of : ℕ → ℕ → Move
+move_of situation action = record { situation = situation; action = action }
 
 -- A record of the code, as the walk lists it.
 abbrev pub listed_of : PairRecord → Listed
