@@ -1,14 +1,54 @@
--- The turns of the loops that go back through the table.
+-- The way back through a table, and the run that is read off it.
 use Rattle.std.proofs.Common.{◌≡◌, ℕ, zero, suc, ◌+◌, ◌-◌, ◌*◌, ◌<◌, ◌≤◌, List, [], ◌∷◌, ◌++◌, map, length, get_or, drop, set, sym, refl, ap, ◌∙◌, arith, length-append}
-use Rattle.std.proofs.lemmas.List.{drop-set, get_or-map}
+use lib.ListN.{get_or-map}
+use Rattle.std.proofs.lemmas.List.{drop-set, length-set}
 use Rattle.runs.specs.Runs.{Move}
 use Rattle.runs.specs.Tracing.{traced_back, written_before}
-use Rattle.runs.specs.Walks.{Listed, no_listed}
-use Rattle.runs.proofs.Lengths.{traced_length}
-use Rattle.runs.proofs.Tracebacks.{Earlier, one_back}
 use Rattle.walk.specs.declared.record.PairRecord.{PairRecord}
 use Rattle.walk.specs.Records.{listed_of, zero_record}
-use Rattle.walk.specs.Traced.{MetEarlier, moves_to}
+use Rattle.walk.specs.Traced.{MetEarlier, moves_to, steps_back, way_back}
+
+-- Any steps that are enough give the same way back.
+enough_steps : (table : List PairRecord) (i : ℕ) → MetEarlier table i → (a b j : ℕ) → j ≤ i → j ≤ a → j ≤ b → steps_back table a j ≡ steps_back table b j
+enough_steps table i met zero zero j h k l = refl
+enough_steps table i met zero (suc b) zero h k l = refl
+enough_steps table i met zero (suc b) (suc j) h k l = absurd (omega arith)
+enough_steps table i met (suc a) zero zero h k l = refl
+enough_steps table i met (suc a) zero (suc j) h k l = absurd (omega arith)
+enough_steps table i met (suc a) (suc b) zero h k l = refl
+enough_steps table i met (suc a) (suc b) (suc j) h k l =
+    let entry = get_or table (suc j) zero_record in
+    let less : entry.from < suc j = met.1 (suc j) (omega arith) h in
+    ap (λ rest. entry ∷ rest) (enough_steps table i met a b entry.from (omega arith) (omega arith) (omega arith))
+
+-- The way back from a record is that record, and the way back from the one that it was met from.
+pub one_back : (table : List PairRecord) (i : ℕ) → MetEarlier table i → (i ≡ 0 → ⊥) → way_back table i ≡ get_or table i zero_record ∷ way_back table (get_or table i zero_record).from
+one_back table zero met some = absurd (some refl)
+one_back table (suc i) met some =
+    let entry = get_or table (suc i) zero_record in
+    let less : entry.from < suc i = met.1 (suc i) (omega arith) (omega arith) in
+    ap (λ rest. entry ∷ rest) (enough_steps table (suc i) met i entry.from entry.from (omega arith) (omega arith) (omega arith))
+
+-- The moves of a way back, from its end to its beginning.
+abbrev pub moves_of : List PairRecord → List Move
+moves_of [] = []
+moves_of (entry ∷ rest) = moves_of rest ++ ((listed_of entry).move ∷ [])
+
+moves_steps : (table : List PairRecord) (steps j : ℕ) → traced_back (map listed_of table) steps j ≡ moves_of (steps_back table steps j)
+moves_steps table zero j = refl
+moves_steps table (suc steps) zero = refl
+moves_steps table (suc steps) (suc j) =
+    (λ k. traced_back (map listed_of table) steps (get_or-map listed_of table (suc j) zero_record k).from ++ ((get_or-map listed_of table (suc j) zero_record k).move ∷ []))
+    ∙ ap (λ moves. moves ++ ((listed_of (get_or table (suc j) zero_record)).move ∷ [])) (moves_steps table steps (get_or table (suc j) zero_record).from)
+
+-- There are as many as records on the way.
+moves_length : (way : List PairRecord) → length (moves_of way) ≡ length way
+moves_length [] = refl
+moves_length (entry ∷ rest) = length-append (moves_of rest) _ ∙ omega (arith, moves_length rest)
+
+-- So many moves led to a record as there are records on the way back.
+pub way_length : (table : List PairRecord) (i : ℕ) → length (way_back table i) ≡ length (moves_to table i)
+way_length table i = sym (ap length (moves_steps table i i) ∙ moves_length (way_back table i))
 
 -- The bytes of moves, and more behind them.
 abbrev pub bytes_before : List Move → List ℕ → List ℕ
@@ -39,91 +79,42 @@ two_written place next behind s a run is-next is-behind h =
     ap (λ n. drop place (set (set run place s) n a)) is-next ∙ two_next place s a run (omega arith)
     ∙ ap (λ n. s ∷ a ∷ drop n run) (sym (is-behind ∙ ap suc is-next))
 
--- So many actions have been counted on the way back from record i to a record.
-pub record Counting (table : List PairRecord) (i at count : ℕ) : Type 0 where
-  pub before : at ≤ i
-  pub all : count + length (moves_to table at) ≡ length (moves_to table i)
+-- Of all records on a way the rest are left; the moves of the others have been written behind a place, over what the buffer held when the last situation stood
+-- in it.
+pub record Writing (all rest : List PairRecord) (begun run : List ℕ) (place : ℕ) : Type 0 where
+  pub left : place ≡ 2 * length rest
+  pub fits : place < length run
+  pub whole : bytes_before (moves_of rest) (drop place run) ≡ bytes_before (moves_of all) (drop (2 * length all) begun)
 
--- The moves behind a record have been written behind a place, over what the buffer held when the last situation stood in it.
-pub record Writing (table : List PairRecord) (i : ℕ) (begun run : List ℕ) (at place : ℕ) : Type 0 where
-  pub before : at ≤ i
-  pub low : place ≤ 2 * length (moves_to table i)
-  pub left : place ≡ 2 * length (moves_to table at)
-  pub whole : bytes_before (moves_to table at) (drop place run) ≡ bytes_before (moves_to table i) (drop (2 * length (moves_to table i)) begun)
+-- No move has been.
+pub write_none : (all rest : List PairRecord) (begun : List ℕ) (actions : ℕ) → rest ≡ all → actions ≡ length all → 2 * actions < length begun → Writing all rest begun begun (2 * actions)
+write_none all rest begun actions is many fits = record {
+  left = omega (arith, ap length is);
+  fits = fits;
+  whole = (λ j. bytes_before (moves_of (is j)) (drop (2 * many j) begun));
+}
 
-module _ (table : List PairRecord) (i : ℕ) (met : MetEarlier table i) where
-  -- What a record lists.
-  entry_of : (j : ℕ) → j ≤ i → get_or (map listed_of table) j no_listed ≡ listed_of (get_or table j zero_record)
-  entry_of j h = get_or-map listed_of table j zero_record no_listed (omega (arith, met.0))
+-- The moves of one record more have been.
+pub write_more : {all rest left : List PairRecord} {begun run : List ℕ} {place : ℕ} (entry : PairRecord) → Writing all rest begun run place → rest ≡ entry ∷ left
+    → Writing all left begun (set (set run (place - 2) entry.situation) (place - 2 + 1) entry.action) (place - 2)
+write_more {all} {rest} {left} {begun} {run} {place} entry w is =
+    let two : 2 ≤ place = omega (arith, w.left, ap length is) in
+    record {
+      left = omega (arith, w.left, ap length is);
+      fits = simp length-set (omega (arith, w.fits));
+      whole =
+          ap (bytes_before (moves_of left)) (two_written (place - 2) (place - 2 + 1) place _ _ run (omega arith) (omega arith) (omega (arith, w.fits)))
+          ∙ sym (ap (λ records. bytes_before (moves_of records) (drop place run)) is ∙ bytes_more (moves_of left) (listed_of entry).move (drop place run))
+          ∙ w.whole;
+    }
 
-  earlier : Earlier (map listed_of table) i
-  earlier j some h = rw (entry_of j h) (met.1 j some h)
-
-  -- The moves to a record are those to the record that it was met from, and its own.
-  back : (j : ℕ) → 0 < j → j ≤ i → moves_to table j ≡ moves_to table (get_or table j zero_record).from ++ ((listed_of (get_or table j zero_record)).move ∷ [])
-  back j some h =
-      one_back (map listed_of table) i earlier j some h
-      ∙ ap (λ (entry : Listed). traced_back (map listed_of table) entry.from entry.from ++ (entry.move ∷ [])) (entry_of j h)
-
-  -- One move less leads there.
-  back_length : (j : ℕ) → 0 < j → j ≤ i → length (moves_to table j) ≡ suc (length (moves_to table (get_or table j zero_record).from))
-  back_length j some h = ap length (back j some h) ∙ length-append (moves_to table (get_or table j zero_record).from) _ ∙ omega arith
-
-  -- None has been.
-  pub count_none : Counting table i i 0
-  count_none = record { before = omega arith; all = omega arith }
-
-  -- Fewer than there are records.
-  pub count_fits : {at count : ℕ} → Counting table i at count → 0 < at → count + 1 < length table
-  count_fits {at} {count} c some = omega (arith, c.all, back_length at some c.before, traced_length (map listed_of table) i i, met.0)
-
-  -- One more step back.
-  pub count_more : {at count : ℕ} → Counting table i at count → 0 < at → Counting table i (get_or table at zero_record).from (count + 1)
-  count_more {at} {count} c some =
-      let less = met.1 at some c.before in
-      record { before = omega (arith, c.before); all = omega (arith, c.all, back_length at some c.before) }
-
-  -- Back at the start all have been counted.
-  pub count_all : {at count : ℕ} → at ≡ 0 → Counting table i at count → count ≡ length (moves_to table i)
-  count_all {at} start c = omega (arith, c.all, ap (λ j. length (moves_to table j)) start)
-
-  -- No move has been.
-  pub write_none : (begun : List ℕ) (actions : ℕ) → actions ≡ length (moves_to table i) → Writing table i begun begun i (2 * actions)
-  write_none begun actions all = record {
-    before = omega arith;
-    low = omega arith;
-    left = omega arith;
-    whole = ap (λ n. bytes_before (moves_to table i) (drop (2 * n) begun)) all;
-  }
-
-  module _ {begun run : List ℕ} {at place : ℕ} (w : Writing table i begun run at place) (some : 0 < at) where
-    -- There are two bytes before the place,
-    pub two_left : 2 ≤ place
-    two_left = omega (arith, w.left, back_length at some w.before)
-
-    -- and a move is written there.
-    pub write_more : 2 * length (moves_to table i) + 1 ≤ length run
-        → Writing table i begun (set (set run (place - 2) (get_or table at zero_record).situation) (place - 2 + 1) (get_or table at zero_record).action) (get_or table at zero_record).from (place - 2)
-    write_more fits =
-        let less = met.1 at some w.before in
-        let from = (get_or table at zero_record).from in
-        let inside : place - 2 + 1 < length run = omega (arith, two_left, w.low) in
-        record {
-          before = omega (arith, w.before);
-          low = omega (arith, w.low);
-          left = omega (arith, w.left, back_length at some w.before);
-          whole =
-              ap (bytes_before (moves_to table from)) (two_written (place - 2) (place - 2 + 1) place _ _ run (omega arith) (omega (arith, two_left)) inside)
-              ∙ sym (ap (λ moves. bytes_before moves (drop place run)) (back at some w.before) ∙ bytes_more (moves_to table from) (listed_of (get_or table at zero_record)).move (drop place run))
-              ∙ w.whole;
-        }
-
-  -- Back at the start the run has been written.
-  pub write_all : {run : List ℕ} {at place : ℕ} (begun : List ℕ) (actions last : ℕ) → actions ≡ length (moves_to table i) → 2 * actions + 1 ≤ length begun → at ≡ 0
-      → Writing table i (set begun (2 * actions) last) run at place → run ≡ written_before (moves_to table i) last ++ drop (2 * actions + 1) begun
-  write_all {run} {at} {place} begun actions last all fits start w =
-      let none : moves_to table at ≡ [] = ap (moves_to table) start in
-      let front : place ≡ 0 = omega (arith, w.left, ap length none) in
-      sym (λ j. bytes_before (none j) (drop (front j) run)) ∙ w.whole
-      ∙ ap (bytes_before (moves_to table i)) (ap (λ n. drop (2 * n) (set begun (2 * actions) last)) (sym all) ∙ drop-set begun (2 * actions) last (omega arith))
-      ∙ sym (bytes_written (moves_to table i) last (drop (2 * actions + 1) begun))
+-- All have been, and so the run has.
+pub write_all : {rest : List PairRecord} {run : List ℕ} {place : ℕ} (table : List PairRecord) (i : ℕ) (begun : List ℕ) (actions last : ℕ)
+    → Writing (way_back table i) rest (set begun (2 * actions) last) run place → rest ≡ [] → actions ≡ length (moves_to table i) → 2 * actions + 1 ≤ length begun
+    → run ≡ written_before (moves_to table i) last ++ drop (2 * actions + 1) begun
+write_all {rest} {run} {place} table i begun actions last w none many fits =
+    let front : place ≡ 0 = omega (arith, w.left, ap length none) in
+    let all : actions ≡ length (way_back table i) = many ∙ sym (way_length table i) in
+    sym (λ j. bytes_before (moves_of (none j)) (drop (front j) run)) ∙ w.whole
+    ∙ (λ j. bytes_before (sym (moves_steps table i i) j) (((λ k. drop (2 * sym all k) (set begun (2 * actions) last)) ∙ drop-set begun (2 * actions) last (omega arith)) j))
+    ∙ sym (bytes_written (moves_to table i) last (drop (2 * actions + 1) begun))

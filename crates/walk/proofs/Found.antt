@@ -1,26 +1,23 @@
 -- A pair is found among records, or among pairs, exactly where it is listed there.
-use Rattle.std.proofs.Common.{◌≡◌, ℕ, suc, Bool, true, false, cond, ◌||◌, List, [], ◌∷◌, map, is_some, Some, None, Option, refl, ap, ◌∙◌}
-use Rattle.std.specs.Option.{option_map}
-use Rattle.keys.specs.Keys.{first_at}
-use Rattle.runs.specs.Pairs.{is_among}
+use Rattle.std.proofs.Common.{◌≡◌, Bool, ◌||◌, List, [], ◌∷◌, map, is_some, refl, arith}
+use Rattle.std.specs.List.{position}
+use Rattle.std.proofs.lemmas.Bool.Decides.{nat_tests}
+use Rattle.runs.specs.Pairs.{is_among, same_pair}
 use Rattle.runs.specs.Walks.{has}
 use Rattle.walk.specs.declared.pair.CodePair.{CodePair}
 use Rattle.walk.specs.declared.record.PairRecord.{PairRecord}
-use Rattle.walk.specs.Records.{listed_of, pair_of, same_codes}
+use Rattle.walk.specs.Records.{listed_of, pair_of}
 
 -- The first element passes, or a later one is found.
-found_step : (passes : Bool) (later : Option ℕ) → is_some (cond passes (Some 0) (option_map suc later)) ≡ (passes || is_some later)
-found_step true later = refl
-found_step false None = refl
-found_step false (Some i) = refl
+found_step : {X : Type 0} (test : X → Bool) (x : X) (xs : List X) → is_some (position test (x ∷ xs)) ≡ (test x || is_some (position test xs))
+found_step test x xs = grind (arith, nat_tests)
 
 -- Among records.
-pub found_listed : (p : CodePair) (table : List PairRecord) → is_some (first_at (λ entry. same_codes entry.pair p) table) ≡ has (pair_of p) (map listed_of table)
+pub found_listed : (p : CodePair) (table : List PairRecord) → is_some (position (λ (entry : PairRecord). same_pair (pair_of entry.pair) (pair_of p)) table) ≡ has (pair_of p) (map listed_of table)
 found_listed p [] = refl
-found_listed p (entry ∷ table) =
-    found_step (same_codes entry.pair p) (first_at (λ r. same_codes r.pair p) table) ∙ ap (λ b. same_codes entry.pair p || b) (found_listed p table)
+found_listed p (entry ∷ table) = rw (found_step (λ (r : PairRecord). same_pair (pair_of r.pair) (pair_of p)) entry table, found_listed p table)
 
 -- Among pairs.
-pub found_among : (p : CodePair) (list : List CodePair) → is_some (first_at (λ q. same_codes q p) list) ≡ is_among (pair_of p) (map pair_of list)
+pub found_among : (p : CodePair) (list : List CodePair) → is_some (position (λ q. same_pair (pair_of q) (pair_of p)) list) ≡ is_among (pair_of p) (map pair_of list)
 found_among p [] = refl
-found_among p (q ∷ list) = found_step (same_codes q p) (first_at (λ r. same_codes r p) list) ∙ ap (λ b. same_codes q p || b) (found_among p list)
+found_among p (q ∷ list) = rw (found_step (λ r. same_pair (pair_of r) (pair_of p)) q list, found_among p list)

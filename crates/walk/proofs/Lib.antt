@@ -1,6 +1,6 @@
 -- The lemmas that the walk, the run that it shows and the check rest on.
 pub mod Found
-pub mod Tables
+pub mod Leading
 pub mod Rows
 pub mod Going
 pub mod Backward

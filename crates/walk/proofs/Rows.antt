@@ -1,37 +1,41 @@
--- The turns of a loop that follows a pair along rows of moves. Serves the loops over actions and over situations.
-use Rattle.std.proofs.Common.{◌≡◌, ℕ, suc, ◌+◌, ◌<◌, List, ◌++◌, Some, None, Option, sym, ap, ◌∙◌, subst, arith}
+-- The turns of the loops that follow a pair: situation by situation, and within one action by action.
+use Rattle.std.proofs.Common.{◌≡◌, ℕ, suc, ◌+◌, ◌<◌, ◌≤◌, List, [], ◌∷◌, ◌++◌, length, sym, refl, ap, add-one, append-nil, append_assoc, arith}
 use Rattle.runs.specs.Flows.{FlowMeaning}
-use Rattle.runs.specs.Pairs.{Pair}
+use Rattle.runs.specs.Pairs.{Pair, next_pair}
 use Rattle.runs.specs.Runs.{Move}
-use Rattle.runs.specs.Walks.{Listed, followed}
+use Rattle.runs.specs.Walks.{Listed, followed, moves_below, moves_in, put}
 use Rattle.runs.proofs.Following.{row_grows, row_next}
-use Rattle.walk.specs.declared.record.PairRecord.{PairRecord}
-use Rattle.walk.specs.Tables.{Grew, listed_in}
-use Rattle.walk.proofs.Tables.{Holding, done, held, listed, onward, refused}
+use Rattle.walk.specs.Records.{move_of}
 
-module _ (f g : FlowMeaning) (from : ℕ) (p : Pair) (row part : ℕ → List Move) (next : (a : ℕ) → row (suc a) ≡ row a ++ part a)
-    (list : List Listed) (before : List PairRecord) where
-  -- The list when the pair has been followed along a row.
-  abbrev grown : ℕ → List Listed
-  grown a = followed f g list from p (row a)
+-- The moves of the situations below one, and of that one as far as an action.
+abbrev pub moves_to : ℕ → ℕ → ℕ → List Move
+moves_to k s a = moves_below s k ++ moves_in s a
 
-  module _ (a : ℕ) {used : ℕ} {table after : List PairRecord} (holding : Holding (grown a) before table used) where
-    -- What a turn's call tells, over what the table held when the loop began.
-    told : (r : Option ℕ) → Grew (followed f g (listed_in used table) from p (part a)) table after r → Grew (grown (a + 1)) before after r
-    told r call =
-        let same : followed f g (listed_in used table) from p (part a) ≡ grown (a + 1) =
-        ap (λ xs. followed f g xs from p (part a)) (listed holding) ∙ sym (row_next f g from p row part next list a) in
-        onward (grown (a + 1)) holding (row_grows f g from p row part next list a (a + 1) (omega arith))
-        (subst (λ xs. Grew xs table after r) same call)
+module _ (f g : FlowMeaning) (list : List Listed) (from : ℕ) (p : Pair) where
+  abbrev along : List Move → List Listed
+  along moves = followed f g list from p moves
 
-    -- With room, the next row has been followed.
-    pub turn : {used' : ℕ} → Grew (followed f g (listed_in used table) from p (part a)) table after (Some used') → Holding (grown (a + 1)) before after used'
-    turn call = held (told _ call)
+  -- A situation begins where those below it have been followed,
+  pub begins : (s : ℕ) → along (moves_below s f.actions) ≡ along (moves_to f.actions s 0)
+  begins s = ap along (sym (append-nil (moves_below s f.actions)))
 
-    -- Without, no later row finds room.
-    pub stop : (b : ℕ) → a < b → {r : Option ℕ} → r ≡ None → Grew (followed f g (listed_in used table) from p (part a)) table after None → Grew (grown b) before after r
-    stop b less is call = subst (Grew (grown b) before after) (sym is) (refused (grown b) (row_grows f g from p row part next list (a + 1) b (omega arith)) (told None call))
+  next : (s a : ℕ) → moves_to f.actions s (suc a) ≡ moves_to f.actions s a ++ (move_of s a ∷ [])
+  next s a = sym (append_assoc (moves_below s f.actions) (moves_in s a) (move_of s a ∷ []))
 
-  -- All rows have been followed.
-  pub finish : (a b : ℕ) {used : ℕ} {table : List PairRecord} → a ≡ b → Holding (grown a) before table used → Grew (grown b) before table (Some used)
-  finish a b {used} {table} e holding = subst (λ n. Grew (grown n) before table (Some used)) e (done holding)
+  -- an action more puts down what it leads to,
+  pub puts : (s a : ℕ) → along (moves_to f.actions s (a + 1)) ≡ put (along (moves_to f.actions s a)) (record { pair = next_pair f g p (move_of s a); from = from; move = move_of s a })
+  puts s a = row_next f g from p (moves_to f.actions s) (λ b. move_of s b ∷ []) (next s) list a
+
+  -- and with all actions the situation has been followed.
+  pub ends : (s : ℕ) → along (moves_to f.actions s f.actions) ≡ along (moves_below (s + 1) f.actions)
+  ends s = ap (λ n. along (moves_below n f.actions)) (sym (add-one s))
+
+  -- What has been listed on the way is no longer than what is at the end.
+  pub no_longer : (s a : ℕ) → s < f.situations → a < f.actions → length (along (moves_to f.actions s (a + 1))) ≤ length (along (moves_below f.situations f.actions))
+  no_longer s a some few =
+      omega (
+        arith,
+        row_grows f g from p (moves_to f.actions s) (λ b. move_of s b ∷ []) (next s) list (a + 1) f.actions (omega arith),
+        ap length (ends s),
+        row_grows f g from p (λ n. moves_below n f.actions) (λ n. moves_in n f.actions) (λ n. refl) list (s + 1) f.situations (omega arith),
+      )

@@ -1,28 +1,22 @@
 -- The run that is shown, read off the table: its moves, its last situation and the side that allows it.
-use Rattle.std.proofs.Common.{◌≡◌, ℕ, ◌+◌, ◌-◌, ◌*◌, ◌^◌, ◌<◌, ◌≤◌, Bool, true, false, cond, eqb, ltb, List, ◌++◌, map, length, get_or, drop, Ok, Err, sym, ap, ◌∙◌, subst, arith, length-append}
+use Rattle.std.proofs.Common.{◌≡◌, ℕ, ◌-◌, ◌^◌, ◌<◌, ◌≤◌, true, eqb, List, map, length, get_or, sym, ap, ◌∙◌, subst, arith, length-append}
 use lib.Bits.{bit_xor}
 use lib.Count.{count_trailing_zeros}
 use lib.ListN.{length-replicate, get_or-append}
 use Rattle.std.proofs.lemmas.List.{get_or-map, length-map}
-use Rattle.std.proofs.lemmas.Bool.{and_parts, cond-false, cond-true, eqb-true, le-ltb, lt-ltb}
+use Rattle.std.proofs.lemmas.Bool.{and_parts, eqb-true}
 use Rattle.masks.specs.Bits.{bit}
 use Rattle.runs.specs.Flows.{FlowMeaning, Lawful, allows}
-use Rattle.runs.specs.Runs.{actions_of}
-use Rattle.runs.specs.Tracing.{lowest_apart, written_before}
+use Rattle.runs.specs.Tracing.{lowest_apart}
 use Rattle.runs.specs.Walks.{Listed, at, different, list_after, no_listed}
 use Rattle.runs.proofs.Endings.{Said, ending_says}
 use Rattle.runs.proofs.Entries.{met_earlier}
-use Rattle.runs.proofs.Lengths.{traced_length}
 use Rattle.runs.proofs.Pairs.{masks_differ}
 use Rattle.runs.proofs.Sides.{left_allows}
 use Rattle.runs.proofs.Tracebacks.{Earlier, same_entries}
 use Rattle.runs.proofs.Trailing.{lowest_in_64, trailing_lowest}
-use Rattle.walk.specs.declared.fault.WalkFault.TheVariants.{BufferTooShort}
 use Rattle.walk.specs.declared.record.PairRecord.{PairRecord}
-use Rattle.walk.specs.declared.verdict.Side.{Side}
-use Rattle.walk.specs.declared.verdict.Side.TheVariants.{Left, Right}
-use Rattle.walk.specs.declared.verdict.Verdict.TheVariants.{Different}
-use Rattle.walk.specs.Judged.{alike, answer_of, buffer_by, bytes_of, run_at, side_of}
+use Rattle.walk.specs.Judged.{alike, run_at}
 use Rattle.walk.specs.Records.{listed_of, pair_of, record_of, zero_record, zero_table}
 use Rattle.walk.specs.Shown.{EndedAt}
 use Rattle.walk.specs.Traced.{MetEarlier, moves_to}
@@ -30,6 +24,11 @@ use Rattle.walk.specs.Traced.{MetEarlier, moves_to}
 -- The zeros that end `a ^ b` count up to the lowest situation that only one of two masks has, where they differ.
 trailing_in_64 : (n a b : ℕ) → n ≤ 64 → a < 2 ^ n → b < 2 ^ n → (a ≡ b → ⊥) → count_trailing_zeros 64 (bit_xor a b) ≡ lowest_apart n a b
 trailing_in_64 n a b most fits-a fits-b apart = trailing_lowest 64 a b ∙ lowest_in_64 n a b most fits-a fits-b apart
+
+-- The last situation of the run is the lowest of 64 that only one of two masks has, and the left flow allows the run where its mask has it.
+pub record Told (f g : FlowMeaning) (i a b : ℕ) : Type 0 where
+  pub last : count_trailing_zeros 64 (bit_xor a b) ≡ (run_at f g i).last
+  pub side : bit (count_trailing_zeros 64 (bit_xor a b)) a ≡ allows f (run_at f g i)
 
 module _ (f g : FlowMeaning) (table : List PairRecord) (i : ℕ) (ended : EndedAt f g table i) where
   -- What the walk listed.
@@ -66,7 +65,7 @@ module _ (f g : FlowMeaning) (table : List PairRecord) (i : ℕ) (ended : EndedA
   met = (omega (arith, listed, fits), λ j some h. rw (ap (λ (entry : Listed). entry.from) (entry_at j h)) (earlier j some h))
 
   -- The moves to record i are those of the run that is shown.
-  same_moves : moves_to table i ≡ (run_at f g i).moves
+  pub same_moves : moves_to table i ≡ (run_at f g i).moves
   same_moves =
       same_entries list i earlier (map listed_of table)
       (λ j h. get_or-map listed_of table j zero_record no_listed (omega (arith, listed, fits)) ∙ entry_at j h) i i (omega arith)
@@ -75,49 +74,20 @@ module _ (f g : FlowMeaning) (table : List PairRecord) (i : ℕ) (ended : EndedA
   same_pair : pair_of (get_or table i zero_record).pair ≡ at list i
   same_pair = ap (λ (entry : Listed). entry.pair) (entry_at i (omega arith))
 
-  module _ (actions : ℕ) (counted : actions ≡ length (moves_to table i)) where
-    -- So many actions has the run.
-    all : actions ≡ actions_of (run_at f g i)
-    all = counted ∙ ap length same_moves
+  module _ (a b : ℕ) (is-a : a ≡ f.accept (get_or table i zero_record).pair.left) (is-b : b ≡ g.accept (get_or table i zero_record).pair.right)
+      (compared : alike f g ≡ true) (left : Lawful f) (right : Lawful g) where
+    mask_left : a ≡ f.accept (at list i).left
+    mask_left = is-a ∙ ap (λ p. f.accept p.left) same_pair
 
-    -- They are fewer than the records.
-    pub few : actions < length table
-    few = omega (arith, counted, traced_length (map listed_of table) i i, met.0)
+    mask_right : b ≡ g.accept (at list i).right
+    mask_right = is-b ∙ ap (λ p. g.accept p.right) same_pair
 
-    -- A buffer that is too short is refused, and stays as it was.
-    pub too_short : (run : List ℕ) → length run < 2 * actions + 1
-        → (Err (BufferTooShort (2 * actions + 1)) ≡ answer_of f g (length run) (different i)) × (run ≡ buffer_by f g run (different i))
-    too_short run short =
-        let e : ltb (length run) (bytes_of (actions_of (run_at f g i))) ≡ true = ap (λ n. ltb (length run) (bytes_of n)) (sym all) ∙ lt-ltb _ _ short in
-        (ap (λ n. Err (BufferTooShort (bytes_of n))) all ∙ sym (cond-true _ _ _ e), sym (cond-true _ _ _ e))
+    last : count_trailing_zeros 64 (bit_xor a b) ≡ (run_at f g i).last
+    last =
+        let as_many : f.situations ≡ g.situations = eqb-true _ _ (and_parts (eqb f.situations g.situations) _ compared).0 in
+        let within : g.accept (at list i).right < 2 ^ f.situations = subst (λ n. g.accept (at list i).right < 2 ^ n) (sym as_many) (right.accepts_situations (at list i).right) in
+        (λ j. count_trailing_zeros 64 (bit_xor (mask_left j) (mask_right j)))
+        ∙ trailing_in_64 f.situations _ _ left.most (left.accepts_situations (at list i).left) within (masks_differ f g (at list i) says.2)
 
-    module _ (a b last : ℕ) (is-a : a ≡ f.accept (get_or table i zero_record).pair.left) (is_b : b ≡ g.accept (get_or table i zero_record).pair.right)
-        (is_last : last ≡ count_trailing_zeros 64 (bit_xor a b)) (compared : alike f g ≡ true) (left : Lawful f) (right : Lawful g) where
-      mask_left : a ≡ f.accept (at list i).left
-      mask_left = is-a ∙ ap (λ p. f.accept p.left) same_pair
-
-      mask_right : b ≡ g.accept (at list i).right
-      mask_right = is_b ∙ ap (λ p. g.accept p.right) same_pair
-
-      -- The lowest situation of 64 that only one of the masks has is the last of the run.
-      same_last : last ≡ (run_at f g i).last
-      same_last =
-          let as_many : f.situations ≡ g.situations = eqb-true _ _ (and_parts (eqb f.situations g.situations) _ compared).0 in
-          let within : g.accept (at list i).right < 2 ^ f.situations = subst (λ n. g.accept (at list i).right < 2 ^ n) (sym as_many) (right.accepts_situations (at list i).right) in
-          is_last ∙ (λ j. count_trailing_zeros 64 (bit_xor (mask_left j) (mask_right j)))
-          ∙ trailing_in_64 f.situations _ _ left.most (left.accepts_situations (at list i).left) within (masks_differ f g (at list i) says.2)
-
-      -- The left flow allows the run where its mask has that situation.
-      same_side : bit last a ≡ allows f (run_at f g i)
-      same_side = (λ j. bit (same_last j) (mask_left j)) ∙ sym (left_allows f.situations f.actions (length table) i f g ended.0)
-
-      -- The run is written into a buffer that is long enough, and its actions and the side that allows it are told.
-      pub shown : (run after : List ℕ) (side : Side) (on-left : Bool) → on-left ≡ bit last a → side ≡ cond on-left Left Right → 2 * actions + 1 ≤ length run
-          → after ≡ written_before (moves_to table i) last ++ drop (2 * actions + 1) run
-          → (Ok (Different actions side) ≡ answer_of f g (length run) (different i)) × (after ≡ buffer_by f g run (different i))
-      shown run after side on-left asked is-side fits writes =
-          let e : ltb (length run) (bytes_of (actions_of (run_at f g i))) ≡ false = ap (λ n. ltb (length run) (bytes_of n)) (sym all) ∙ le-ltb _ _ fits in
-          let sided : side ≡ side_of f (run_at f g i) = is-side ∙ ap (λ (b : Bool). cond b Left Right) (asked ∙ same_side) in (
-            (λ j. Ok (Different (all j) (sided j))) ∙ sym (cond-false _ _ _ e),
-            writes ∙ (λ j. written_before (same_moves j) (same_last j) ++ drop (bytes_of (all j)) run) ∙ sym (cond-false _ _ _ e),
-          )
+    pub told : Told f g i a b
+    told = record { last = last; side = (λ j. bit (last j) (mask_left j)) ∙ sym (left_allows f.situations f.actions (length table) i f g ended.0) }

@@ -1,6 +1,6 @@
 pub mod Faults
 pub mod Records
-pub mod Tables
+pub mod Listings
 pub mod Judged
 pub mod Ended
 pub mod Traced

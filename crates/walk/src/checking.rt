@@ -8,12 +8,10 @@ ghost use Rattle.walk.specs.Failing.{failing_at};
 ghost use Rattle.walk.specs.Promises.{AListConvinces};
 ghost use Rattle.walk.specs.Records.{pair_of};
 
-use crate::disagreement::disagree_at;
 use crate::fault::WalkFault;
-use crate::likeness::are_alike;
 use crate::limits::MOST_PAIRS;
-use crate::moves::{next_pair, start_pair};
 use crate::pair::CodePair;
+use crate::sides::Sides;
 use crate::verdict::Finding;
 use flows::Flow;
 use keys::find;
@@ -25,68 +23,51 @@ fn is_among(pair: CodePair, list: &[CodePair]) -> bool
     find(list, &pair).is_some()
 }
 
-// Whether each action leads from the pair into the list, in one situation.
-fn leads_in<F: Flow, G: Flow>(
-    left: &F,
-    right: &G,
-    list: &[CodePair],
-    pair: CodePair,
-    situation: u8,
-) -> bool
-    ensures leads { result ≡ leads_into (F.Flow.meaning left.now) (G.Flow.meaning right.now) (map pair_of list.now) (pair_of pair) (moves_in situation (F.Flow.meaning left.now).actions) }
-{
-    for action in 0..left.actions() {
-        if !is_among(next_pair(left, right, pair, situation, action), list) {
-            return false;
-        }
+impl<F: Flow, G: Flow> Sides<'_, F, G> {
+    // Whether each action leads from the pair into the list, in one situation.
+    fn leads_in(&self, list: &[CodePair], pair: CodePair, situation: u8) -> bool
+        ensures leads { result ≡ leads_into (F.Flow.meaning self.now.left.now) (G.Flow.meaning self.now.right.now) (map pair_of list.now) (pair_of pair) (moves_in situation (F.Flow.meaning self.now.left.now).actions) }
+    {
+        (0..self.left.actions()).all(|action| is_among(
+            self.next_pair(pair, situation, action),
+            list,
+        ))
     }
-    true
-}
 
-// Whether each move leads from the pair into the list.
-fn leads_into<F: Flow, G: Flow>(left: &F, right: &G, list: &[CodePair], pair: CodePair) -> bool
-    ensures leads { result ≡ leads_into (F.Flow.meaning left.now) (G.Flow.meaning right.now) (map pair_of list.now) (pair_of pair) (moves_below (F.Flow.meaning left.now).situations (F.Flow.meaning left.now).actions) }
-{
-    for situation in 0..left.situations() {
-        if !leads_in(left, right, list, pair, situation) {
-            return false;
-        }
+    // Whether each move leads from the pair into the list.
+    fn leads_into(&self, list: &[CodePair], pair: CodePair) -> bool
+        ensures leads { result ≡ leads_into (F.Flow.meaning self.now.left.now) (G.Flow.meaning self.now.right.now) (map pair_of list.now) (pair_of pair) (moves_below (F.Flow.meaning self.now.left.now).situations (F.Flow.meaning self.now.left.now).actions) }
+    {
+        (0..self.left.situations()).all(|situation| self.leads_in(list, pair, situation))
     }
-    true
-}
 
-// What fails at pair number `i` of the list, its masks first.
-fn failing_at<F: Flow, G: Flow>(
-    left: &F,
-    right: &G,
-    list: &[CodePair],
-    i: usize,
-    pair: CodePair,
-) -> Option<Finding>
-    ensures fails { result ≡ failing_at (F.Flow.meaning left.now) (G.Flow.meaning right.now) (map pair_of list.now) i (pair_of pair) }
-{
-    if disagree_at(left, right, pair) {
-        return Some(Finding::MasksFail(i));
-    }
-    if !leads_into(left, right, list, pair) {
-        return Some(Finding::StepFails(i));
-    }
-    None
-}
-
-// What is found of a list, for flows that are alike.
-fn examine<F: Flow, G: Flow>(left: &F, right: &G, list: &[CodePair]) -> Finding
-    ensures found { result ≡ told (finding (F.Flow.meaning left.now).situations (F.Flow.meaning left.now).actions (F.Flow.meaning left.now) (G.Flow.meaning right.now) (map pair_of list.now)) }
-{
-    if !is_among(start_pair(left, right), list) {
-        return Finding::StartMissing;
-    }
-    for i in 0..list.len() {
-        if let Some(failing) = failing_at(left, right, list, i, list[i]) {
-            return failing;
+    // What fails at pair number `i` of the list, its masks first.
+    fn failing_at(&self, list: &[CodePair], i: usize, pair: CodePair) -> Option<Finding>
+        ensures fails { result ≡ failing_at (F.Flow.meaning self.now.left.now) (G.Flow.meaning self.now.right.now) (map pair_of list.now) i (pair_of pair) }
+    {
+        if self.disagree_at(pair) {
+            return Some(Finding::MasksFail(i));
         }
+        if !self.leads_into(list, pair) {
+            return Some(Finding::StepFails(i));
+        }
+        None
     }
-    Finding::Passes
+
+    // What is found of a list.
+    fn examine(&self, list: &[CodePair]) -> Finding
+        ensures found { result ≡ told (finding (F.Flow.meaning self.now.left.now).situations (F.Flow.meaning self.now.left.now).actions (F.Flow.meaning self.now.left.now) (G.Flow.meaning self.now.right.now) (map pair_of list.now)) }
+    {
+        if !is_among(self.start_pair(), list) {
+            return Finding::StartMissing;
+        }
+        for (i, pair) in list.iter().enumerate() {
+            if let Some(failing) = self.failing_at(list, i, *pair) {
+                return failing;
+            }
+        }
+        Finding::Passes
+    }
 }
 
 // Whether the start pair is in the list, the flows agree at each pair of it, and every move leads from each pair to a pair
@@ -98,8 +79,5 @@ pub fn check<F: Flow, G: Flow>(left: &F, right: &G, list: &[CodePair]) -> Result
     if list.len() > MOST_PAIRS {
         return Err(WalkFault::TableTooLarge);
     }
-    if !are_alike(left, right) {
-        return Err(WalkFault::Unlike);
-    }
-    Ok(examine(left, right, list))
+    Ok(Sides::new(left, right)?.examine(list))
 }

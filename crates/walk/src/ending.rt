@@ -7,6 +7,4 @@ pub(crate) enum Ending {
     Equal(usize),
     // At the pair of this number the flows disagree.
     Different(usize),
-    // There was a pair to put down, and the table was full.
-    Full,
 }

@@ -1,74 +1,69 @@
-// Following a pair of the table: the pairs that its moves lead to are put down behind the used records.
-ghost use Rattle.std.specs.Prelude.{◌<◌, ◌≤◌, length, slice_index_or};
-ghost use Rattle.runs.specs.Walks.{followed, moves_below, moves_in, put};
-ghost use Rattle.walk.specs.Records.{listed_of, pair_of, zero_record};
-ghost use Rattle.walk.specs.Tables.{Grew, listed_in};
+// Following a pair that is listed: the pairs that its moves lead to are put down behind the listed ones.
+ghost use Rattle.std.specs.Prelude.{◌≡◌, ◌<◌, ◌≤◌, IfNone, IfSome, length};
+ghost use Rattle.runs.specs.Walks.{at, followed, has, moves_below, put};
+ghost use Rattle.walk.specs.Listings.{Grew, listed};
+ghost use Rattle.walk.specs.Records.{listed_of, pair_of};
 
-use crate::moves::next_pair;
+use crate::fault::WalkFault;
+use crate::listing::Listing;
 use crate::pair::CodePair;
 use crate::record::PairRecord;
+use crate::sides::Sides;
 use flows::Flow;
 use keys::find;
 
-// Puts a pair down at the end, unless one of the used records has it. The answer is how many are used then, and none
-// where the table is full.
-pub(crate) fn put_down(table: &mut [PairRecord], used: usize, entry: PairRecord) -> Option<usize>
-    requires used_fit { used ≤ length table.old }
-    ensures grew { Grew (put (listed_in used table.old) (listed_of entry)) table.old table.new result }
-{
-    if find(&table[0..used], &entry.pair).is_some() {
-        return Some(used);
+impl Listing<'_> {
+    // The pair of this number, if so many are listed.
+    pub(crate) fn pair(&self, i: usize) -> Option<CodePair>
+        ensures listed { IfSome result (λ pair. (i < self.now.used) × (pair_of pair ≡ at (listed self.now) i)) }
+        ensures behind { IfNone result (self.now.used ≤ i) }
+    {
+        self.table[..self.used].get(i).map(|entry| entry.pair)
     }
-    if used < table.len() {
-        table[used] = entry;
-        Some(used + 1)
-    } else {
-        None
-    }
-}
 
-// Follows pair number `from` along the actions, upward, in one situation.
-fn follow_in<F: Flow, G: Flow>(
-    left: &F,
-    right: &G,
-    table: &mut [PairRecord],
-    used: usize,
-    from: usize,
-    pair: CodePair,
-    situation: u8,
-) -> Option<usize>
-    requires used_fit { used ≤ length table.old }
-    ensures grew { Grew (followed (F.Flow.meaning left.now) (G.Flow.meaning right.now) (listed_in used table.old) from (pair_of pair) (moves_in situation (F.Flow.meaning left.now).actions)) table.old table.new result }
-{
-    let mut grown = used;
-    for action in 0..left.actions() {
-        let entry = PairRecord {
-            pair: next_pair(left, right, pair, situation, action),
-            from,
-            situation,
-            action,
-        };
-        grown = put_down(table, grown, entry)?;
+    // Whether the pair is listed.
+    fn has(&self, pair: CodePair) -> bool
+        ensures found { result ≡ has (pair_of pair) (listed self.now) }
+    {
+        find(&self.table[..self.used], &pair).is_some()
     }
-    Some(grown)
-}
 
-// Follows pair number `from` along the situations, upward, and in each along the actions.
-pub(crate) fn follow<F: Flow, G: Flow>(
-    left: &F,
-    right: &G,
-    table: &mut [PairRecord],
-    used: usize,
-    from: usize,
-) -> Option<usize>
-    requires used_fit { used ≤ length table.old }
-    requires is_used { from < used }
-    ensures grew { Grew (followed (F.Flow.meaning left.now) (G.Flow.meaning right.now) (listed_in used table.old) from (pair_of (slice_index_or table.old from zero_record).pair) (moves_below (F.Flow.meaning left.now).situations (F.Flow.meaning left.now).actions)) table.old table.new result }
-{
-    let pair = table[from].pair;
-    let mut grown = used;
-    for situation in 0..left.situations() {
-        grown = follow_in(left, right, table, grown, from, pair, situation)?;
+    // Puts a pair down behind the listed ones, unless it is listed; refused where the table is full.
+    pub(crate) fn put_down(&mut self, entry: PairRecord) -> Result<(), WalkFault>
+        ensures name { self.new.table.ghost_name ≡ self.old.table.ghost_name }
+        ensures grew { Grew (put (listed self.old) (listed_of entry)) self.old self.new result }
+    {
+        if self.has(entry.pair) {
+            return Ok(());
+        }
+        if self.used == self.table.len() {
+            return Err(WalkFault::TableFull);
+        }
+        self.table[self.used] = entry;
+        self.used += 1;
+        Ok(())
     }
-    Some(grown)
+
+    // Follows pair number `from` along the situations, upward, and in each along the actions, upward.
+    pub(crate) fn follow<F: Flow, G: Flow>(
+        &mut self,
+        sides: &Sides<'_, F, G>,
+        from: usize,
+        pair: CodePair,
+    ) -> Result<(), WalkFault>
+        ensures name { self.new.table.ghost_name ≡ self.old.table.ghost_name }
+        ensures grew { Grew (followed (F.Flow.meaning sides.now.left.now) (G.Flow.meaning sides.now.right.now) (listed self.old) from (pair_of pair) (moves_below (F.Flow.meaning sides.now.left.now).situations (F.Flow.meaning sides.now.left.now).actions)) self.old self.new result }
+    {
+        for situation in 0..sides.left.situations() {
+            for action in 0..sides.left.actions() {
+                self.put_down(PairRecord {
+                    pair: sides.next_pair(pair, situation, action),
+                    from,
+                    situation,
+                    action,
+                })?;
+            }
+        }
+        Ok(())
+    }
 }

@@ -6,10 +6,10 @@ ghost use Rattle.walk.specs.Promises.{AListConvinces, IfDifferent, IfEqual, IfFu
 use crate::clearing::clear;
 use crate::ending::Ending;
 use crate::fault::WalkFault;
-use crate::likeness::are_alike;
 use crate::limits::MOST_PAIRS;
 use crate::record::PairRecord;
 use crate::showing::show;
+use crate::sides::Sides;
 use crate::verdict::Verdict;
 use crate::walking::walk;
 use flows::Flow;
@@ -29,13 +29,11 @@ fn compare<F: Flow, G: Flow>(
         return Err(WalkFault::TableTooLarge);
     }
     clear(table);
-    if !are_alike(left, right) {
-        return Err(WalkFault::Unlike);
-    }
-    let answer = match walk(left, right, table) {
-        Ending::Equal(count) => return Ok(Verdict::Equal(count)),
-        Ending::Different(i) => show(left, right, table, i, run),
-        Ending::Full => Err(WalkFault::TableFull),
+    let sides = Sides::new(left, right)?;
+    let answer = match walk(&sides, table) {
+        Ok(Ending::Equal(count)) => return Ok(Verdict::Equal(count)),
+        Ok(Ending::Different(i)) => show(&sides, table, i, run),
+        Err(fault) => Err(fault),
     };
     clear(table);
     answer

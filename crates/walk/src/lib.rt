@@ -10,14 +10,15 @@ mod ending;
 mod fault;
 mod following;
 mod judging;
-mod likeness;
 mod limits;
-mod moves;
+mod listing;
 mod pair;
 mod record;
 mod sameness;
 mod showing;
+mod sides;
 mod tracing;
+mod trail;
 mod verdict;
 mod walking;
 

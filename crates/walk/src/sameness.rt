@@ -1,20 +1,7 @@
-// When two pairs are the same, so that the one list that finds keys finds pairs.
-ghost use Rattle.walk.specs.Records.{same_codes, same_codes_laws};
-
+// What pairs and records are found by, so that the one list that finds keys finds pairs.
 use crate::pair::CodePair;
 use crate::record::PairRecord;
-use keys::{Key, Keyed};
-
-// Two pairs are the same where both their codes are.
-impl Key for CodePair {
-    ghost same = { same_codes };
-
-    ghost laws = { same_codes_laws };
-
-    fn is_same(&self, other: &CodePair) -> bool {
-        self.left == other.left && self.right == other.right
-    }
-}
+use keys::Keyed;
 
 // In a list of pairs each is its own key.
 impl Keyed for CodePair {

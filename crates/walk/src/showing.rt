@@ -3,26 +3,28 @@ ghost use Rattle.std.specs.Prelude.{◌≡◌, ◌≤◌, true, length};
 ghost use Rattle.runs.specs.Walks.{different};
 ghost use Rattle.walk.specs.Judged.{alike, answer_of, buffer_by};
 ghost use Rattle.walk.specs.Shown.{EndedAt};
+ghost use Rattle.walk.specs.Traced.{MetEarlier};
 
 use crate::fault::WalkFault;
 use crate::record::PairRecord;
+use crate::sides::Sides;
 use crate::tracing::{actions_to, write_run};
 use crate::verdict::{Side, Verdict};
 use flows::Flow;
 
 // Writes the run that led to pair number `i` into the buffer, and tells how many actions it has and which side allows it.
 pub(crate) fn show<F: Flow, G: Flow>(
-    left: &F,
-    right: &G,
+    sides: &Sides<'_, F, G>,
     table: &[PairRecord],
     i: usize,
     run: &mut [u8],
 ) -> Result<Verdict, WalkFault>
-    requires compared { alike (F.Flow.meaning left.now) (G.Flow.meaning right.now) ≡ true }
-    requires ended { EndedAt (F.Flow.meaning left.now) (G.Flow.meaning right.now) table.now i }
+    requires compared { alike (F.Flow.meaning sides.now.left.now) (G.Flow.meaning sides.now.right.now) ≡ true }
+    requires ended { EndedAt (F.Flow.meaning sides.now.left.now) (G.Flow.meaning sides.now.right.now) table.now i }
+    requires met_earlier { MetEarlier table.now i }
     requires few { length table.now ≤ 2048 }
-    ensures answer { result ≡ answer_of (F.Flow.meaning left.now) (G.Flow.meaning right.now) (length run.old) (different i) }
-    ensures run_afterwards { run.new ≡ buffer_by (F.Flow.meaning left.now) (G.Flow.meaning right.now) run.old (different i) }
+    ensures answer { result ≡ answer_of (F.Flow.meaning sides.now.left.now) (G.Flow.meaning sides.now.right.now) (length run.old) (different i) }
+    ensures run_afterwards { run.new ≡ buffer_by (F.Flow.meaning sides.now.left.now) (G.Flow.meaning sides.now.right.now) run.old (different i) }
 {
     let actions = actions_to(table, i);
     let wanted = 2 * actions + 1;
@@ -30,9 +32,9 @@ pub(crate) fn show<F: Flow, G: Flow>(
         return Err(WalkFault::BufferTooShort(wanted));
     }
     let pair = table[i].pair;
-    let mask = left.accept(pair.left);
+    let mask = sides.left.accept(pair.left);
     // The lowest situation that only one of the masks has.
-    let last = (mask ^ right.accept(pair.right)).trailing_zeros() as u8;
+    let last = (mask ^ sides.right.accept(pair.right)).trailing_zeros() as u8;
     write_run(table, i, actions, last, run);
     let side = if masks::has(mask, last) {
         Side::Left

@@ -1,23 +1,19 @@
-// Going back through the table, from a record to the start: how many actions led to it, and the run's bytes.
-ghost use Rattle.std.specs.Prelude.{◌≡◌, ◌≤◌, ◌++◌, length, drop};
+// Reading the run off the table that led to a record: how many actions it has, and its bytes.
+ghost use Rattle.std.specs.Prelude.{◌≡◌, ◌<◌, ◌≤◌, ◌++◌, length, drop};
 ghost use Rattle.runs.specs.Tracing.{written_before};
 ghost use Rattle.walk.specs.Judged.{bytes_of};
 ghost use Rattle.walk.specs.Traced.{MetEarlier, moves_to};
 
 use crate::record::PairRecord;
+use crate::trail::Trail;
 
 // How many actions led to record `i`.
 pub(crate) fn actions_to(table: &[PairRecord], i: usize) -> usize
     requires met_earlier { MetEarlier table.now i }
     ensures counted { result ≡ length (moves_to table.now i) }
+    ensures fewer { result < length table.now }
 {
-    let mut count = 0;
-    let mut at = i;
-    while at != 0 {
-        at = table[at].from;
-        count += 1;
-    }
-    count
+    Trail { table, at: i }.count()
 }
 
 // Writes the moves that led to record `i`, so many actions, and the last situation to the front of the buffer, from the
@@ -30,12 +26,9 @@ pub(crate) fn write_run(table: &[PairRecord], i: usize, actions: usize, last: u8
 {
     let mut place = 2 * actions;
     run[place] = last;
-    let mut at = i;
-    while at != 0 {
-        let met = table[at];
+    for met in (Trail { table, at: i }) {
         place -= 2;
         run[place] = met.situation;
         run[place + 1] = met.action;
-        at = met.from;
     }
 }

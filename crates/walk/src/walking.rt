@@ -4,38 +4,36 @@ ghost use Rattle.std.specs.Prelude.{◌≡◌, length};
 ghost use Rattle.walk.specs.Ended.{Walked};
 ghost use Rattle.walk.specs.Records.{zero_table};
 
-use crate::disagreement::disagree_at;
 use crate::ending::Ending;
-use crate::following::{follow, put_down};
-use crate::moves::start_pair;
+use crate::fault::WalkFault;
+use crate::listing::Listing;
 use crate::record::PairRecord;
+use crate::sides::Sides;
 use flows::Flow;
 
-// Walks over the pairs of two flows in a table that holds zeros.
-pub(crate) fn walk<F: Flow, G: Flow>(left: &F, right: &G, table: &mut [PairRecord]) -> Ending
+// Walks over the pairs of two flows in a table that holds zeros; refused where the table is too small for them.
+pub(crate) fn walk<F: Flow, G: Flow>(
+    sides: &Sides<'_, F, G>,
+    table: &mut [PairRecord],
+) -> Result<Ending, WalkFault>
     requires is_clear { table.old ≡ zero_table (length table.old) }
-    ensures walked { Walked (F.Flow.meaning left.now) (G.Flow.meaning right.now) (length table.old) table.new result }
+    ensures walked { Walked (F.Flow.meaning sides.now.left.now) (G.Flow.meaning sides.now.right.now) (length table.old) table.new result }
 {
-    let start = PairRecord {
-        pair: start_pair(left, right),
+    let mut listing = Listing { table, used: 0 };
+    listing.put_down(PairRecord {
+        pair: sides.start_pair(),
         from: 0,
         situation: 0,
         action: 0,
-    };
-    let mut used = match put_down(table, 0, start) {
-        Some(one) => one,
-        None => return Ending::Full,
-    };
+    })?;
+    // The list grows while it is walked, so its pairs are asked for by their numbers, and no iterator can lend them.
     let mut i = 0;
-    while i < used {
-        if disagree_at(left, right, table[i].pair) {
-            return Ending::Different(i);
+    while let Some(pair) = listing.pair(i) {
+        if sides.disagree_at(pair) {
+            return Ok(Ending::Different(i));
         }
-        match follow(left, right, table, used, i) {
-            Some(grown) => used = grown,
-            None => return Ending::Full,
-        }
+        listing.follow(sides, i, pair)?;
         i += 1;
     }
-    Ending::Equal(used)
+    Ok(Ending::Equal(i))
 }

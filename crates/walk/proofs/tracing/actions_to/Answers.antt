@@ -1,22 +1,15 @@
-use Rattle.std.proofs.Common.{◌<◌, arith}
-use Rattle.walk.proofs.Backward.{count_all, count_fits, count_more, count_none}
+use Rattle.std.proofs.Common.{◌≡◌, length, map, refl, ◌∙◌, arith}
+use Rattle.std.proofs.lemmas.Iterator.Consumers.{YieldsList-from_first, count_from_yields_List}
+use Rattle.runs.proofs.Lengths.{traced_length}
+use Rattle.walk.specs.declared.trail.Trail.{Trail}
+use Rattle.walk.specs.Records.{listed_of}
+use Rattle.walk.specs.Traced.{moves_to, way_back}
+use Rattle.walk.proofs.Backward.{way_length}
 use Rattle.walk.proofs.tracing.actions_to.Goals as goal
 
--- The record reached is not the start.
-some : (c : goal.In-loop-at) → 0 < c.loop-at.at
-some c = omega (arith, c.loop-at-test.true)
-
-pub loop-at-init : goal.loop-at-init
-loop-at-init c = count_none c.args.table.now c.args.i c.requires.met_earlier
-
-pub overflow_add-count : goal.overflow_add-count
-overflow_add-count c = omega (arith, count_fits c.args.table.now c.args.i c.requires.met_earlier c.loop-at.invariant (some c))
-
-pub loop-at-smaller : goal.loop-at-smaller
-loop-at-smaller c = c.requires.met_earlier.1 c.loop-at.at (some c) c.loop-at.invariant.before
-
-pub loop-at-preserved : goal.loop-at-preserved
-loop-at-preserved c = count_more c.args.table.now c.args.i c.requires.met_earlier c.loop-at.invariant (some c)
-
 pub returns : goal.returns
-returns c = record { counted = count_all c.args.table.now c.args.i c.requires.met_earlier c.loop-at-test.false c.loop-at.invariant }
+returns c =
+    let table = c.args.table.now in
+    let counted : c.count.result ≡ length (moves_to table c.args.i) =
+    count_from_yields_List _ _ c.count.ensures.ran (YieldsList-from_first (λ x. x) (λ (trail : Trail). way_back trail.table.now trail.at) (way_back table c.args.i) refl) ∙ way_length table c.args.i in
+    record { counted = counted; fewer = omega (arith, counted, traced_length (map listed_of table) c.args.i c.args.i, c.requires.met_earlier.0) }
