@@ -11,4 +11,3 @@ pub mod Complete
 pub mod Rules
 pub mod Numbering
 pub mod Sizes
-pub mod Worked

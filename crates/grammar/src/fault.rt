@@ -39,42 +39,19 @@ impl From<RuleFault> for Refusal {
     ghost from_gives = { λ fault r. r ≡ refusal_of fault };
 
     fn from(fault: RuleFault) -> Refusal {
-        match fault {
-            RuleFault::Sign(sign) => Refusal {
-                layer: Layer::Signs,
-                number: sign.number(),
-                place: sign.place(),
-            },
-            RuleFault::TooMany(place) => Refusal {
-                layer: Layer::Rule,
-                number: 8,
-                place,
-            },
-            RuleFault::Unfit(place) => Refusal {
-                layer: Layer::Rule,
-                number: 9,
-                place,
-            },
-            RuleFault::UnknownName(place) => Refusal {
-                layer: Layer::Rule,
-                number: 10,
-                place,
-            },
-            RuleFault::TooDeep(place) => Refusal {
-                layer: Layer::Rule,
-                number: 11,
-                place,
-            },
-            RuleFault::NotATest(place) => Refusal {
-                layer: Layer::Rule,
-                number: 12,
-                place,
-            },
-            RuleFault::NoRoom => Refusal {
-                layer: Layer::Book,
-                number: 17,
-                place: 0,
-            },
+        let (layer, number, place) = match fault {
+            RuleFault::Sign(sign) => return Refusal::from(sign),
+            RuleFault::TooMany(place) => (Layer::Rule, 8, place),
+            RuleFault::Unfit(place) => (Layer::Rule, 9, place),
+            RuleFault::UnknownName(place) => (Layer::Rule, 10, place),
+            RuleFault::TooDeep(place) => (Layer::Rule, 11, place),
+            RuleFault::NotATest(place) => (Layer::Rule, 12, place),
+            RuleFault::NoRoom => (Layer::Book, 17, 0),
+        };
+        Refusal {
+            layer,
+            number,
+            place,
         }
     }
 }

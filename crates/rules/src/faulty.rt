@@ -12,11 +12,11 @@ pub fn faulty_sign<'a>(text: &'a [u8], fault: RuleFault) -> &'a [u8]
 {
     match fault {
         RuleFault::Sign(sign) => faulty(text, sign),
-        RuleFault::TooMany(place) => sign_part(text, place),
-        RuleFault::Unfit(place) => sign_part(text, place),
-        RuleFault::UnknownName(place) => sign_part(text, place),
-        RuleFault::TooDeep(place) => sign_part(text, place),
-        RuleFault::NotATest(place) => sign_part(text, place),
+        RuleFault::TooMany(place)
+        | RuleFault::Unfit(place)
+        | RuleFault::UnknownName(place)
+        | RuleFault::TooDeep(place)
+        | RuleFault::NotATest(place) => sign_part(text, place),
         RuleFault::NoRoom => &text[0..0],
     }
 }
@@ -26,8 +26,8 @@ fn sign_part<'a>(text: &'a [u8], place: usize) -> &'a [u8]
     ensures { result.now ≡ sign_part text.now place }
 {
     let word = faulty(text, SignFault::NameTooLong(place));
-    if word.len() > 0 {
-        return word;
+    if word.is_empty() {
+        return faulty(text, SignFault::StrayByte(place));
     }
-    faulty(text, SignFault::StrayByte(place))
+    word
 }

@@ -2,7 +2,6 @@
 ghost use Rattle.std.specs.Prelude.{◌≡◌, ◌+◌, ◌<◌, ◌≤◌};
 ghost use Rattle.grammar.specs.Reading.{fresh, is_bracket, judge, take_name};
 ghost use Rattle.signs.specs.Reader.{mark_of};
-ghost use Rattle.signs.specs.Signs.{stands_at};
 ghost use Rattle.rules.specs.Machines.{KeptIfRefused, end_outcome, machine_of, outcome};
 
 use crate::machine::{Machine, Wants};
@@ -15,18 +14,6 @@ const SIGNS: u8 = 255;
 
 // The most actions that a rule has.
 const ACTIONS: u8 = 63;
-
-// The place of a sign.
-fn place_of(sign: Sign<'_>) -> usize
-    ensures { result ≡ stands_at (mark_of sign.entry) }
-{
-    match sign {
-        Sign::Name(_, place) => place,
-        Sign::Skip(place) | Sign::Stop(place) => place,
-        Sign::Open(place) | Sign::Close(place) => place,
-        Sign::Not(place) | Sign::Star(place) | Sign::Then(place) | Sign::Or(place) => place,
-    }
-}
 
 // Whether the sign is a bracket.
 fn is_bracket(sign: Sign<'_>) -> bool
@@ -82,7 +69,7 @@ impl Machine {
         ensures kept { KeptIfRefused result self.old self.new }
     {
         if !is_bracket(sign) && self.signs == SIGNS {
-            return Err(RuleFault::TooMany(place_of(sign)));
+            return Err(RuleFault::TooMany(sign.place()));
         }
         match (self.wants, sign) {
             (Wants::Wanting, Sign::Open(place)) => {
@@ -98,12 +85,12 @@ impl Machine {
                 self.signs += 1;
             }
             (Wants::Wanting, Sign::Name(_, place)) => return self.take_name(named, place),
-            (Wants::Wanting, Sign::Skip(_)) | (Wants::Wanting, Sign::Stop(_)) => {
+            (Wants::Wanting, Sign::Skip(_) | Sign::Stop(_)) => {
                 self.signs += 1;
                 self.wants = Wants::Following;
             }
             (Wants::Following, Sign::Star(_)) => self.signs += 1,
-            (Wants::Following, Sign::Then(_)) | (Wants::Following, Sign::Or(_)) => {
+            (Wants::Following, Sign::Then(_) | Sign::Or(_)) => {
                 self.signs += 1;
                 self.wants = Wants::Wanting;
             }
@@ -113,7 +100,7 @@ impl Machine {
                 }
                 self.brackets -= 1;
             }
-            _ => return Err(RuleFault::Unfit(place_of(sign))),
+            _ => return Err(RuleFault::Unfit(sign.place())),
         }
         Ok(())
     }

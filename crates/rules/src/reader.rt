@@ -41,6 +41,7 @@ impl Drop for Reader<'_, '_> {
         ensures { self.exit.0.now ≡ blank (length self.entry.nodes.now) }
     {
         self.nodes.fill(Node::Empty);
+        // Each field is named, since the language refuses `..` where a guard is taken apart in its own `drop`.
         let Reader {
             nodes: _,
             signs: _,
@@ -57,6 +58,7 @@ impl<'t> Reader<'t, '_> {
     pub(crate) fn keep(self)
         ensures { self.exit.0.now ≡ self.entry.nodes.now }
     {
+        // Each field is named, since behind `..` it is not known that the nodes stay as they are.
         let Reader {
             nodes: _,
             signs: _,

@@ -1,6 +1,4 @@
 -- Lemmas that several proofs share, and the theorems of the sign reader.
-pub mod Every
-pub mod Literal
 pub mod Bytes
 pub mod Words
 pub mod Steps

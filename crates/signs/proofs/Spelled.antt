@@ -1,12 +1,13 @@
 -- The signs that are read from a text spell it, and signs that spell a text are read from it; so no other list does.
 use Rattle.std.proofs.Common.{◌≡◌, ℕ, suc, ◌+◌, Bool, true, false, not, ltb, leb, List, [], ◌∷◌, ◌++◌, length, take, drop, Ok, Err, Result, sym, refl, ap, ◌∙◌, subst, add-zero, one-add, arith, take-append-drop}
 use Rattle.std.specs.List.{prefix_len}
-use Rattle.std.proofs.lemmas.List.{append-nil, length-take-le, take_at, drop_at}
-use Rattle.std.proofs.lemmas.List.Sums.{prefix_len-le-length}
+use Rattle.std.proofs.lemmas.List.{append-nil, take_at, drop_at}
+use Rattle.std.proofs.lemmas.List.Folds.{length-prefix_len}
 use Rattle.std.proofs.lemmas.Bool.{and_from, and_parts, both_ways, cond-true, cond-false, not-true, ltb-false, le-leb, leb-true, le-ltb}
 use Rattle.signs.specs.declared.fault.SignFault.{SignFault}
 use Rattle.signs.specs.declared.fault.SignFault.TheVariants.{NameTooLong}
-use Rattle.signs.specs.Names.{every, inner, letter, spelled, reserved}
+use Rattle.std.specs.List.{list_all}
+use Rattle.signs.specs.Names.{inner, letter, spelled, reserved}
 use Rattle.signs.specs.Runs.{blank, inner_run}
 use Rattle.signs.specs.Signs.{Mark, named, skipping, stopping, opening, closing, negating, repeating, following, choosing, bytes_of, stands_at, behind, sign_at, word_at, word_of, and_then, signs_from}
 use Rattle.signs.specs.Spelling.{Spells, stops, well_made, as_long_as_can_be}
@@ -30,12 +31,12 @@ with_first P Q m (Err fault) f h = tt
 
 -- one more blank in front
 more_blank : (place b : ℕ) (bs : List ℕ) → blank b ≡ true → (ms : List Mark) → Spells (place + 1) bs ms → Spells place (b ∷ bs) ms
-more_blank place b bs h [] s = and_from (blank b) (every blank bs) h s
+more_blank place b bs h [] s = and_from (blank b) (list_all blank bs) h s
 more_blank place b bs h (m ∷ ms) s =
     record {
       gap = b ∷ s.gap;
       rest = s.rest;
-      blanks = and_from (blank b) (every blank s.gap) h s.blanks;
+      blanks = and_from (blank b) (list_all blank s.gap) h s.blanks;
       joined = ap (λ cs. b ∷ cs) s.joined;
       stands = s.stands ∙ omega arith;
       made = s.made;
@@ -75,7 +76,7 @@ more_word : (place b : ℕ) (bs : List ℕ) → letter b ≡ true → ltb 12 (le
 more_word place b bs l short ms s =
     let word = b ∷ inner_run bs in
     let ends : behind (word_of word place) ≡ place + 1 + prefix_len inner bs =
-    word_behind word place ∙ omega (arith, length-take-le (prefix_len inner bs) bs (prefix_len-le-length inner bs))
+    word_behind word place ∙ omega (arith, length-prefix_len inner bs)
     in
     record {
       gap = [];
@@ -83,7 +84,7 @@ more_word place b bs l short ms s =
       blanks = refl;
       joined = ap (λ cs. cs ++ drop (prefix_len inner bs) bs) (word_bytes word place) ∙ ap (λ cs. b ∷ cs) (take-append-drop (prefix_len inner bs) bs);
       stands = word_stands word place ∙ sym (add-zero place);
-      made = word_made word place (and_from (letter b) (every inner (inner_run bs)) l (run_inner bs)) (le-leb (length word) 12 (ltb-false 12 (length word) short));
+      made = word_made word place (and_from (letter b) (list_all inner (inner_run bs)) l (run_inner bs)) (le-leb (length word) 12 (ltb-false 12 (length word) short));
       whole = word_whole word place (drop (prefix_len inner bs) bs) (run_stops bs);
       more = subst (λ q. Spells q (drop (prefix_len inner bs) bs) ms) (sym ends) s;
     }
@@ -129,10 +130,10 @@ pub read_spells : (text : List ℕ) (ms : List Mark) → signs_from false 0 text
 read_spells text ms h = subst (OfSigns (Spells 0 text)) h (spell 0 text).0
 
 -- blanks in front are passed over
-signs_blanks : (place : ℕ) (gap bs : List ℕ) → every blank gap ≡ true → signs_from false place (gap ++ bs) ≡ signs_from false (place + length gap) bs
+signs_blanks : (place : ℕ) (gap bs : List ℕ) → list_all blank gap ≡ true → signs_from false place (gap ++ bs) ≡ signs_from false (place + length gap) bs
 signs_blanks place [] bs h = rw add-zero
 signs_blanks place (b ∷ gap) bs h =
-    let p = and_parts (blank b) (every blank gap) h in
+    let p = and_parts (blank b) (list_all blank gap) h in
     rw p.0 (signs_blanks (place + 1) gap bs p.1 ∙ ap (λ q. signs_from false q bs) (omega arith))
 
 -- a word that is as long as can be is read, and then what follows it
@@ -140,7 +141,7 @@ signs_word : (word : List ℕ) (place : ℕ) (rest : List ℕ) → spelled word 
     → signs_from false place (word ++ rest) ≡ and_then (Ok (word_of word place)) (signs_from false (place + length word) rest)
 signs_word [] place rest s l h = absurd (both_ways false refl s)
 signs_word (b ∷ word) place rest s l h =
-    let p = and_parts (letter b) (every inner word) s in
+    let p = and_parts (letter b) (list_all inner word) s in
     let run : prefix_len inner (word ++ rest) ≡ length word = run_length word rest p.1 h in
     let whole : inner_run (word ++ rest) ≡ word = ap (λ n. take n (word ++ rest)) run ∙ take_at word rest (length word) refl in
     let short : ltb 12 (length (b ∷ word)) ≡ false = le-ltb 12 (length (b ∷ word)) (leb-true (length (b ∷ word)) 12 l) in

@@ -1,8 +1,9 @@
 -- The next sign of a text against the list of all its signs.
 use Rattle.std.proofs.Common.{◌≡◌, ℕ, suc, ◌+◌, ◌-◌, ◌<◌, ◌≤◌, Bool, true, false, ltb, List, [], ◌∷◌, length, get_or, drop, Some, None, Ok, Err, Option, Result, sym, refl, ap, ◌∙◌, zero-le, add-zero, add-one, one-add, arith, drop-cons}
 use Rattle.std.specs.List.{prefix_len}
-use Rattle.std.proofs.lemmas.List.{drop_all, drop-drop, get_or-drop, length-drop, length-take-le}
-use Rattle.std.proofs.lemmas.List.Sums.{prefix_len-le-length}
+use Rattle.std.proofs.lemmas.List.{drop_all, drop-drop, get_or-drop, length-drop}
+use Rattle.std.proofs.lemmas.List.Folds.{length-prefix_len}
+use Rattle.std.proofs.lemmas.List.Sums.{prefix_len-le-length, prefix_len_stops}
 use Rattle.std.proofs.lemmas.Bool.{cond-false}
 use Rattle.signs.specs.declared.fault.SignFault.{SignFault}
 use Rattle.signs.specs.declared.fault.SignFault.TheVariants.{NameTooLong}
@@ -33,15 +34,6 @@ next_blanks place (b ∷ bs) = go (blank b) refl (next_blanks (place + 1) bs)
     go true e h = rw (e, one-add) (h ∙ ap (λ n. next_sign n (drop (prefix_len blank bs) bs)) (omega arith))
     go false e h = rw (e, add-zero, e)
 
--- the byte behind the blanks is none
-leading_stops : (test : ℕ → Bool) (xs : List ℕ) → prefix_len test xs < length xs → test (get_or xs (prefix_len test xs) 0) ≡ false
-leading_stops test [] h = absurd (omega arith)
-leading_stops test (x ∷ xs) h = go (test x) refl (leading_stops test xs)
-  where
-    go : (y : Bool) → test x ≡ y → (prefix_len test xs < length xs → test (get_or xs (prefix_len test xs) 0) ≡ false) → test (get_or (x ∷ xs) (prefix_len test (x ∷ xs)) 0) ≡ false
-    go true e ih = rw (e, one-add) (ih (omega (arith, rw (e, one-add) at h)))
-    go false e ih = rw (e) e
-
 -- the next sign from a place on, where the blanks end at another
 module _ (text : List ℕ) (from at : ℕ) (passed : at ≡ from + prefix_len blank (drop from text)) where
   next_at : next_sign from (drop from text) ≡ next_sign at (drop at text)
@@ -52,7 +44,7 @@ module _ (text : List ℕ) (from at : ℕ) (passed : at ≡ from + prefix_len bl
 
   pub next_there : at < length text → next_sign from (drop from text) ≡ found (sign_at at (get_or text at 0) (drop (at + 1) text))
   next_there h =
-      let no-blank : blank (get_or text at 0) ≡ false = rw (passed, ← get_or-drop) (leading_stops blank (drop from text) (omega (arith, passed, length-drop from text))) in
+      let no-blank : blank (get_or text at 0) ≡ false = rw (passed, ← get_or-drop) (prefix_len_stops blank (drop from text) 0 (omega (arith, passed, length-drop from text))) in
       next_at ∙ rw (drop-cons text at 0, no-blank, add-one)
 
 -- one step of the list: nothing at the end, the fault, or a sign and the list behind it
@@ -85,7 +77,7 @@ steps_sign place b bs h = go (single b) refl (letter b) refl
         let is = sign_letter place b bs l ∙ cond-false _ (Err (NameTooLong place)) (Ok (word_of (b ∷ inner_run bs) place)) short in
         let le = prefix_len-le-length inner bs in
         let ends : behind (word_of (b ∷ inner_run bs) place) ≡ place + 1 + prefix_len inner bs =
-        word_behind (b ∷ inner_run bs) place ∙ omega (arith, length-take-le (prefix_len inner bs) bs le)
+        word_behind (b ∷ inner_run bs) place ∙ omega (arith, length-prefix_len inner bs)
         in
         rw short (steps_found place b bs (word_of (b ∷ inner_run bs) place) (prefix_len inner bs) h is ends le (rw (letter_inner b l) (signs_inside (place + 1) bs)))
 

@@ -2,8 +2,7 @@
 use Rattle.std.proofs.Common.{◌≡◌, ℕ, zero, suc, ◌+◌, ◌<◌, Bool, true, false, cond, not, ◌&&◌, ltb, List, [], ◌∷◌, length, get_or, drop, Ok, Err, Result, sym, refl, ap, ◌∙◌, subst, add-zero, one-add, arith}
 use lib.Dec.{leb-suc-suc, leb-suc-zero}
 use Rattle.std.specs.List.{prefix_len}
-use Rattle.std.proofs.lemmas.List.{length-take-le}
-use Rattle.std.proofs.lemmas.List.Sums.{prefix_len-le-length}
+use Rattle.std.proofs.lemmas.List.Folds.{length-prefix_len}
 use Rattle.std.proofs.lemmas.Bool.{and_from, and_left, and_right, both_ways, cond-true, cond-false, not_from_true, lt-ltb}
 use Rattle.std.proofs.lemmas.Bool.Decides.{nat_tests}
 use Rattle.signs.specs.declared.fault.SignFault.{SignFault}
@@ -96,7 +95,7 @@ stray_first false b bs out h s l = and_from _ _ (lt-ltb 0 (length (b ∷ bs)) (o
 
 -- a word is as long as its run
 word_length : (b : ℕ) (bs : List ℕ) → letter b ≡ true → prefix_len inner (b ∷ bs) ≡ length (b ∷ inner_run bs)
-word_length b bs l = rw (letter_inner b l, one-add) (ap suc (sym (length-take-le (prefix_len inner bs) bs (prefix_len-le-length inner bs))))
+word_length b bs l = rw (letter_inner b l, one-add) (ap suc (sym (length-prefix_len inner bs)))
 
 none_before : (inside : Bool) (bs : List ℕ) (j : ℕ) → j < 0 → Sound inside bs j
 none_before inside bs j h = absurd (omega arith)

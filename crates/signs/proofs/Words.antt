@@ -1,10 +1,10 @@
 -- Words: what they are made of, how far they go, and where they end.
 use Rattle.std.proofs.Common.{◌≡◌, ℕ, suc, ◌+◌, ◌<◌, Bool, true, false, not, leb, List, [], ◌∷◌, ◌++◌, length, get_or, drop, codes, sym, refl, ap, add-one, one-add, drop-cons}
-use Rattle.std.specs.List.{prefix_len}
+use Rattle.std.specs.List.{list_all, prefix_len}
 use Rattle.std.specs.Str.{bytes_eq}
 use Rattle.std.proofs.lemmas.Slice.Eq.{bytes_eq-Decides}
 use Rattle.std.proofs.lemmas.Bool.{and_from, and_parts, or_parts, not-true}
-use Rattle.signs.specs.Names.{every, inner, spelled, reserved}
+use Rattle.signs.specs.Names.{inner, spelled, reserved}
 use Rattle.signs.specs.Runs.{inner_run, inner_part}
 use Rattle.signs.specs.Signs.{Mark, named, skipping, stopping, bytes_of, stands_at, behind, word_of}
 use Rattle.signs.specs.Spelling.{well_made, as_long_as_can_be, stops}
@@ -42,11 +42,11 @@ word_named word place free =
     rw (p.0, p.1)
 
 -- the bytes of a run are all inner, and what follows it is not
-pub run_inner : (bs : List ℕ) → every inner (inner_run bs) ≡ true
+pub run_inner : (bs : List ℕ) → list_all inner (inner_run bs) ≡ true
 run_inner [] = refl
 run_inner (b ∷ bs) = go (inner b) refl (run_inner bs)
   where
-    go : (x : Bool) → inner b ≡ x → every inner (inner_run bs) ≡ true → every inner (inner_run (b ∷ bs)) ≡ true
+    go : (x : Bool) → inner b ≡ x → list_all inner (inner_run bs) ≡ true → list_all inner (inner_run (b ∷ bs)) ≡ true
     go true e h = rw (e, one-add) (and_from _ _ e h)
     go false e h = rw e
 
@@ -59,11 +59,11 @@ run_stops (b ∷ bs) = go (inner b) refl (run_stops bs)
     go false e h = rw (e, e)
 
 -- a run goes on to where it stops
-pub run_length : (word rest : List ℕ) → every inner word ≡ true → stops rest ≡ true → prefix_len inner (word ++ rest) ≡ length word
+pub run_length : (word rest : List ℕ) → list_all inner word ≡ true → stops rest ≡ true → prefix_len inner (word ++ rest) ≡ length word
 run_length [] [] h s = refl
 run_length [] (b ∷ bs) h s = rw (not-true (inner b) s)
 run_length (b ∷ word) rest h s =
-    let p = and_parts (inner b) (every inner word) h in
+    let p = and_parts (inner b) (list_all inner word) h in
     rw (p.0, one-add) (ap suc (run_length word rest p.1 s))
 
 -- a run that begins with an inner byte

@@ -1,6 +1,8 @@
 -- The refusals of the sign reader, each with its values.
 use Rattle.std.specs.Prelude.{ℕ, List, take, drop}
 use Rattle.std.specs.List.{prefix_len}
+use Rattle.refusals.specs.declared.Layer.TheVariants.{Signs}
+use Rattle.refusals.specs.declared.Refusal.{Refusal}
 use Rattle.signs.specs.Names.{inner}
 use Rattle.signs.specs.declared.fault.SignFault.{SignFault}
 use Rattle.signs.specs.declared.fault.SignFault.TheVariants.{TextTooLong, StrayByte, NameTooLong}
@@ -16,6 +18,10 @@ abbrev pub place_of : SignFault → ℕ
 place_of TextTooLong = 4096
 place_of (StrayByte place) = place
 place_of (NameTooLong place) = place
+
+-- Each refusal as it is told.
+abbrev pub refusal_of : SignFault → Refusal
+refusal_of fault = record { layer = Signs; number = number_of fault; place = place_of fault }
 
 -- How many bytes of the text are faulty: none, the stray byte, or the name as long as it is.
 abbrev pub extent_of : List ℕ → SignFault → ℕ

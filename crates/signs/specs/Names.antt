@@ -1,5 +1,6 @@
 -- What a name is. Bytes are numbers below 256, and letters and digits go by their ASCII codes.
-use Rattle.std.specs.Prelude.{ℕ, Bool, true, false, not, ◌&&◌, ◌||◌, List, [], ◌∷◌, length, codes, ◌==◌, nat_le}
+use Rattle.std.specs.Prelude.{ℕ, Bool, false, not, ◌&&◌, ◌||◌, List, [], ◌∷◌, length, codes, ◌==◌, nat_le}
+use Rattle.std.specs.List.{list_all}
 use Rattle.std.specs.Str.{bytes_eq}
 
 -- The byte lies between two others, both included.
@@ -14,15 +15,10 @@ letter b = within 65 90 b || within 97 122 b
 abbrev pub inner : ℕ → Bool
 inner b = within 65 90 b || (within 97 122 b || (within 48 57 b || b == 95))
 
--- Each byte of the list passes the test.
-abbrev pub every : (ℕ → Bool) → List ℕ → Bool
-every test [] = true
-every test (b ∷ bs) = test b && every test bs
-
 -- A name of any length is spelled with a letter, then letters, digits or `_`.
 abbrev pub spelled : List ℕ → Bool
 spelled [] = false
-spelled (b ∷ bs) = letter b && every inner bs
+spelled (b ∷ bs) = letter b && list_all inner bs
 
 -- The two words that stand for themselves in a rule.
 abbrev pub reserved : List ℕ → Bool

@@ -1,6 +1,7 @@
 -- What it is for signs to spell a text, said without the reader's steps, and the theorems on it.
 use Rattle.std.specs.Prelude.{◌≡◌, ℕ, ◌+◌, ◌≤◌, Bool, true, not, List, [], ◌∷◌, ◌++◌, length, Ok}
-use Rattle.signs.specs.Names.{every, inner, is_name}
+use Rattle.std.specs.List.{list_all}
+use Rattle.signs.specs.Names.{inner, is_name}
 use Rattle.signs.specs.Runs.{blank}
 use Rattle.signs.specs.Signs.{Mark, named, skipping, stopping, opening, closing, negating, repeating, following, choosing, bytes_of, stands_at, behind, signs_of}
 
@@ -37,7 +38,7 @@ as_long_as_can_be (choosing place) rest = true
 pub record Begins (place : ℕ) (text : List ℕ) (m : Mark) (More : List ℕ → Type 0) : Type 0 where
   pub gap : List ℕ
   pub rest : List ℕ
-  pub blanks : every blank gap ≡ true
+  pub blanks : list_all blank gap ≡ true
   pub joined : gap ++ (bytes_of m ++ rest) ≡ text
   pub stands : stands_at m ≡ place + length gap
   pub made : well_made m ≡ true
@@ -47,7 +48,7 @@ pub record Begins (place : ℕ) (text : List ℕ) (m : Mark) (More : List ℕ �
 -- The signs spell the text that stands from `place` on: joined, with blanks in front of each and behind the last, they
 -- give it back, each stands where it says, and no name could be longer.
 abbrev pub Spells : ℕ → List ℕ → List Mark → Type 0
-Spells place text [] = every blank text ≡ true
+Spells place text [] = list_all blank text ≡ true
 Spells place text (m ∷ ms) = Begins place text m (λ rest. Spells (behind m) rest ms)
 
 -- The signs that are read from a text spell it: joined, with the blanks between them, they give it back.

@@ -1,9 +1,10 @@
 // Why a text is refused before any of its signs means something. Each case has its number and its place.
 ghost use Rattle.std.specs.Prelude.{◌≡◌};
-ghost use Rattle.signs.specs.Faults.{faulty_part, number_of, place_of};
+ghost use Rattle.signs.specs.Faults.{faulty_part, refusal_of};
 
 use crate::limits::TEXT_BYTES;
-use crate::runs::inner_part;
+use crate::runs::{inner_part, rest_from};
+use refusals::{Layer, Refusal};
 
 // A refusal of the sign reader.
 #[derive(Clone, Copy, PartialEq, Eq, Debug)]
@@ -16,26 +17,20 @@ pub enum SignFault {
     NameTooLong(usize),
 }
 
-impl SignFault {
-    // The number of the refusal.
-    pub fn number(&self) -> u8
-        ensures { result ≡ number_of self.now }
-    {
-        match *self {
-            SignFault::TextTooLong => 5,
-            SignFault::StrayByte(_) => 6,
-            SignFault::NameTooLong(_) => 7,
-        }
-    }
+// Each refusal as it is told.
+impl From<SignFault> for Refusal {
+    ghost from_gives = { λ fault r. r ≡ refusal_of fault };
 
-    // The place in the text that the refusal speaks of.
-    pub fn place(&self) -> usize
-        ensures { result ≡ place_of self.now }
-    {
-        match *self {
-            SignFault::TextTooLong => TEXT_BYTES,
-            SignFault::StrayByte(place) => place,
-            SignFault::NameTooLong(place) => place,
+    fn from(fault: SignFault) -> Refusal {
+        let (number, place) = match fault {
+            SignFault::TextTooLong => (5, TEXT_BYTES),
+            SignFault::StrayByte(place) => (6, place),
+            SignFault::NameTooLong(place) => (7, place),
+        };
+        Refusal {
+            layer: Layer::Signs,
+            number,
+            place,
         }
     }
 }
@@ -48,10 +43,8 @@ pub fn faulty<'a>(text: &'a [u8], fault: SignFault) -> &'a [u8]
     match fault {
         SignFault::TextTooLong => &text[0..0],
         SignFault::StrayByte(place) => {
-            if place >= text.len() {
-                return &text[0..0];
-            }
-            &text[place..place + 1]
+            let rest = rest_from(text, place);
+            &rest[..rest.len().min(1)]
         }
         SignFault::NameTooLong(place) => inner_part(text, place),
     }
@@ -60,14 +53,18 @@ pub fn faulty<'a>(text: &'a [u8], fault: SignFault) -> &'a [u8]
 #[cfg(test)]
 mod tests {
     use super::{SignFault, faulty};
+    use refusals::Refusal;
+
+    fn told(fault: SignFault) -> (u8, usize) {
+        let Refusal { number, place, .. } = Refusal::from(fault);
+        (number, place)
+    }
 
     #[test]
     fn numbers_and_places(rt: HostRuntime) {
-        assert!(rt; SignFault::TextTooLong.number() == 5 && SignFault::TextTooLong.place() == 4096);
-        assert!(rt; SignFault::StrayByte(3).number() == 6 && SignFault::StrayByte(3).place() == 3);
-        assert!(rt;
-            SignFault::NameTooLong(9).number() == 7 && SignFault::NameTooLong(9).place() == 9
-        );
+        assert!(rt; told(SignFault::TextTooLong) == (5, 4096));
+        assert!(rt; told(SignFault::StrayByte(3)) == (6, 3));
+        assert!(rt; told(SignFault::NameTooLong(9)) == (7, 9));
     }
 
     #[test]

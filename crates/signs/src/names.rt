@@ -1,7 +1,8 @@
 // What a name is: an ASCII letter, then letters, digits or `_`, at most 12 bytes, and neither of the two words `skip`
 // and `stop`. Nothing outside this crate knows what a name is made of.
 ghost use Rattle.std.specs.Prelude.{◌≡◌};
-ghost use Rattle.signs.specs.Names.{every, inner, is_name, letter, spelled};
+ghost use Rattle.std.specs.List.{list_all};
+ghost use Rattle.signs.specs.Names.{inner, is_name, letter, spelled};
 
 use crate::limits::NAME_BYTES;
 
@@ -9,26 +10,21 @@ use crate::limits::NAME_BYTES;
 pub(crate) fn is_letter(b: u8) -> bool
     ensures { result ≡ letter b }
 {
-    matches!(char::from(b), 'A'..='Z' | 'a'..='z')
+    b.is_ascii_alphabetic()
 }
 
 // Whether the byte may stand in a name behind its first.
 pub(crate) fn is_inner(b: u8) -> bool
     ensures { result ≡ inner b }
 {
-    matches!(char::from(b), 'A'..='Z' | 'a'..='z' | '0'..='9' | '_')
+    b.is_ascii_alphanumeric() || b == b'_'
 }
 
 // Whether each of the bytes may stand in a name behind its first.
 fn all_inner(bytes: &[u8]) -> bool
-    ensures { result ≡ every inner bytes.now }
+    ensures { result ≡ list_all inner bytes.now }
 {
-    for b in bytes {
-        if !is_inner(*b) {
-            return false;
-        }
-    }
-    true
+    bytes.iter().all(|b| is_inner(*b))
 }
 
 // Whether the bytes are spelled as a name of any length is.
@@ -46,8 +42,7 @@ pub fn is_name(bytes: &[u8]) -> bool
     ensures { result ≡ is_name bytes.now }
 {
     match bytes {
-        b"skip" => false,
-        b"stop" => false,
+        b"skip" | b"stop" => false,
         _ => is_spelled(bytes) && bytes.len() <= NAME_BYTES,
     }
 }

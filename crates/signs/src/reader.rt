@@ -23,6 +23,7 @@ pub struct SignReader<'a> {
 impl<'a> SignReader<'a> {
     // A reader of a text of at most 4,096 bytes. The first two clauses say what is returned, and the others what the
     // signs of the text are, whatever the text.
+    #[tactic(auto, using(crate::proofs::Theorems::signs_give_the_text_back, crate::proofs::Theorems::spelling_signs_are_read, crate::proofs::Theorems::one_list_of_signs, crate::proofs::Theorems::sound_text_has_its_signs))]
     pub fn new(text: &'a [u8]) -> Result<SignReader<'a>, SignFault>
         ensures begins_at_the_first_byte { Begun text.now result }
         ensures has_all_signs_ahead { signs_to_come result ≡ signs_of text.now }

@@ -9,30 +9,31 @@ use crate::names::is_inner;
 fn is_blank(b: u8) -> bool
     ensures { result ≡ blank b }
 {
-    matches!(char::from(b), ' ' | '\t' | '\n' | '\r')
+    matches!(b, b' ' | b'\t' | b'\n' | b'\r')
+}
+
+// The bytes of a text from a place on: none where the text has no such place.
+pub(crate) fn rest_from(text: &[u8], from: usize) -> &[u8]
+    ensures { result.now ≡ drop from text.now }
+{
+    &text[from.min(text.len())..]
 }
 
 // The place of the first byte from `from` on that is no blank.
 pub(crate) fn after_blanks(text: &[u8], from: usize) -> usize
     ensures { result ≡ from + prefix_len blank (drop from text.now) }
 {
-    let mut at = from;
-    while at < text.len() && is_blank(text[at]) {
-        at += 1;
-    }
-    at
+    from + rest_from(text, from)
+        .iter()
+        .take_while(|b| is_blank(**b))
+        .count()
 }
 
 // The bytes from `from` on that may stand in a name behind its first, as many as there are.
 pub(crate) fn inner_part<'a>(text: &'a [u8], from: usize) -> &'a [u8]
     ensures { result.now ≡ inner_part from text.now }
 {
-    if from >= text.len() {
-        return &text[0..0];
-    }
-    let mut end = from;
-    while end < text.len() && is_inner(text[end]) {
-        end += 1;
-    }
-    &text[from..end]
+    let rest = rest_from(text, from);
+    let bytes = rest.iter().take_while(|b| is_inner(**b)).count();
+    &rest[..bytes]
 }

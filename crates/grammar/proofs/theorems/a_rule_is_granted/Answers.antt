@@ -3,4 +3,4 @@ use Rattle.grammar.proofs.Rules.{rule_is_granted}
 use Rattle.grammar.proofs.theorems.a_rule_is_granted.Goals as goal
 
 pub returns : goal.returns
-returns c = rule_is_granted
+returns c = record { rule_is_granted = rule_is_granted }

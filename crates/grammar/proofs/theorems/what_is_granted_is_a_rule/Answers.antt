@@ -3,4 +3,4 @@ use Rattle.grammar.proofs.Granted.{granted_is_a_rule}
 use Rattle.grammar.proofs.theorems.what_is_granted_is_a_rule.Goals as goal
 
 pub returns : goal.returns
-returns c = granted_is_a_rule
+returns c = record { granted_is_a_rule = granted_is_a_rule }

@@ -1,20 +1,15 @@
--- One blank further, and at the end of the blanks.
-use Rattle.std.proofs.Common.{sym, arith}
-use Rattle.std.proofs.lemmas.List.Sums.{prefix_len-drop_yes, prefix_len-drop_no, prefix_len-drop_all}
+-- The bytes counted are the blanks from the place on.
+use Rattle.std.proofs.Common.{rules, tests, ◌+◌, drop, ap, ◌∙◌}
+use Rattle.std.proofs.lemmas.Iterator.{YieldsList-from_slice}
+use Rattle.std.proofs.lemmas.Iterator.Consumers.{YieldsList-at, count_from_yields_List}
+use Rattle.std.proofs.lemmas.Iterator.Search.{YieldsList-from_take_while}
+use Rattle.std.proofs.lemmas.List.Folds.{length-prefix_len}
 use Rattle.signs.specs.Runs.{blank}
 use Rattle.signs.proofs.runs.after_blanks.Goals as goal
 
-pub loop-at-preserved : goal.loop-at-preserved
-loop-at-preserved c =
-    let e = prefix_len-drop_yes blank c.args.text.now c.loop-at.at 0 (omega arith) (sym c.if-is_blank.ensures) in
-    omega (arith, c.loop-at.invariant)
-
-pub returns-else-is_blank : goal.returns-else-is_blank
-returns-else-is_blank c =
-    let e = prefix_len-drop_no blank c.args.text.now c.loop-at.at 0 (omega arith) (sym c.if-is_blank.ensures) in
-    omega (arith, c.loop-at.invariant)
-
-pub returns-after-loop-at : goal.returns-after-loop-at
-returns-after-loop-at c =
-    let e = prefix_len-drop_all blank c.args.text.now c.loop-at.at (omega arith) in
-    omega (arith, c.loop-at.invariant)
+pub returns : goal.returns
+returns c =
+    ap (λ n. c.args.from + n)
+    (count_from_yields_List c.take_while.result c.count.result c.count.ensures.ran
+    (YieldsList-from_take_while _ blank (YieldsList-at c.take_while.ensures.source (YieldsList-from_slice (drop c.args.from c.args.text.now) cc)) c.take_while.ensures.closure c.take_while.ensures.done (λ x b q k. search (rules, tests)))
+    ∙ length-prefix_len blank (drop c.args.from c.args.text.now))
