@@ -1,8 +1,9 @@
 -- The union of masks, and the end masks with one joined in.
-use Rattle.std.proofs.Common.{◌≡◌, ℕ, zero, suc, ◌+◌, ◌^◌, ◌<◌, ◌≤◌, Bool, true, false, cond, ◌||◌, eqb, List, ◌∷◌, length, get_or, set, sym, refl, ap, ◌∙◌, subst, ⊎_elim, pow-suc, arith, pow_mono}
+use Rattle.std.proofs.Common.{◌≡◌, ℕ, zero, suc, ◌+◌, ◌^◌, ◌<◌, ◌≤◌, Bool, true, false, cond, ◌||◌, eqb, List, ◌∷◌, ◌++◌, length, get_or, set, take, sym, refl, ap, ◌∙◌, subst, ⊎_elim, pow-suc, arith, pow_mono}
 use lib.Bits.{bit_or, or_lt}
-use Rattle.std.proofs.lemmas.List.{get_or-set_same, get_or-set_other}
+use Rattle.std.proofs.lemmas.List.{get_or-set_same, get_or-set_other, length-set, append-nil, drop_all, take_all}
 use Rattle.std.proofs.lemmas.Bool.{cases_eq, cond-true, cond-false, eq-eqb, ne_eqb}
+use Rattle.std.specs.List.{refill}
 use Rattle.masks.specs.Bits.{bit}
 use Rattle.masks.proofs.Operations.{bit-or, bits_same}
 use Rattle.charts.specs.Lines.{ends_at}
@@ -51,12 +52,25 @@ end_joined ends at mask line h is lines state =
     ∙ ap (λ l. bit_or (get_or ends state 0) (ends_at (l ∷ lines) state)) (sym is)
 
 -- Joined masks of situations are masks of situations.
-pub joined_within : (n states : ℕ) (ends : List ℕ) (at mask : ℕ) → at < length ends → at < states → mask < 2 ^ n → ((state : ℕ) → state < states → get_or ends state 0 < 2 ^ n) → (state : ℕ) → state < states → get_or (set ends at (bit_or (get_or ends at 0) mask)) state 0 < 2 ^ n
-joined_within n states ends at mask h inside short within state k =
+pub joined_within : (n : ℕ) (ends : List ℕ) (at mask : ℕ) → at < length ends → mask < 2 ^ n → ((state : ℕ) → get_or ends state 0 < 2 ^ n) → (state : ℕ) → get_or (set ends at (bit_or (get_or ends at 0) mask)) state 0 < 2 ^ n
+joined_within n ends at mask h short within state =
     ⊎_elim
     (λ (e : at ≡ state).
     subst (λ q. get_or (set ends at (bit_or (get_or ends at 0) mask)) q 0 < 2 ^ n) e
-    (subst (λ x. x < 2 ^ n) (sym (get_or-set_same ends at (bit_or (get_or ends at 0) mask) 0 h)) (or_lt n _ _ (within at inside) short)))
+    (subst (λ x. x < 2 ^ n) (sym (get_or-set_same ends at (bit_or (get_or ends at 0) mask) 0 h)) (or_lt n _ _ (within at) short)))
     (λ (ne : at ≡ state → ⊥).
-    subst (λ x. x < 2 ^ n) (sym (get_or-set_other ends at state (bit_or (get_or ends at 0) mask) 0 (λ e. ne (sym e)))) (within state k))
+    subst (λ x. x < 2 ^ n) (sym (get_or-set_other ends at state (bit_or (get_or ends at 0) mask) 0 (λ e. ne (sym e)))) (within state))
     (cases_eq at state)
+
+-- What fills a list in full, as long as it, stands there alone.
+refill_same : (xs ws : List ℕ) → length ws ≡ length xs → refill (length xs) xs ws ≡ ws
+refill_same xs ws same =
+    ap (λ rest. take (length xs) (ws ++ rest)) (drop_all (length ws) xs (omega arith))
+    ∙ ap (take (length xs)) (append-nil ws)
+    ∙ take_all (length xs) ws (omega arith)
+
+-- What is joined in where the masks are seen as a slice is joined in among them.
+pub joined_seen : (ends seen : List ℕ) (at mask : ℕ) → seen ≡ ends → refill (length ends) ends (set seen at (bit_or (get_or seen at 0) mask)) ≡ set ends at (bit_or (get_or ends at 0) mask)
+joined_seen ends seen at mask same =
+    ap (λ xs. refill (length ends) ends (set xs at (bit_or (get_or xs at 0) mask))) same
+    ∙ refill_same ends (set ends at (bit_or (get_or ends at 0) mask)) (length-set ends at (bit_or (get_or ends at 0) mask))

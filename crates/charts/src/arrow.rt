@@ -1,5 +1,6 @@
 // A move line as a chart keeps it.
-ghost use Rattle.std.specs.Prelude.{◌≤◌};
+ghost use Rattle.std.specs.Prelude.{◌≡◌, ◌≤◌};
+ghost use Rattle.charts.specs.Lines.{fits};
 
 // In the situations of the mask, the action leads from a state to a state.
 #[derive(Clone, Copy)]
@@ -10,4 +11,25 @@ pub struct Arrow {
     pub to: u8,
     // A state fits a byte, so that it fits the 64 bits of a code.
     ghost short: { to ≤ 255 },
+}
+
+// What stands in each place that no move line has filled.
+impl Default for Arrow {
+    fn default() -> Arrow {
+        Arrow {
+            from: 0,
+            mask: 0,
+            action: 0,
+            to: 0,
+        }
+    }
+}
+
+impl Arrow {
+    // Whether the arrow leads on from a state by an action done in a situation.
+    pub fn fits(self, state: u64, situation: u8, action: u8) -> bool
+        ensures fits { result ≡ fits self.from self.mask self.action state situation action }
+    {
+        u64::from(self.from) == state && masks::has(self.mask, situation) && self.action == action
+    }
 }

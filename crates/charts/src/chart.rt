@@ -1,7 +1,8 @@
 // A chart, prepared to answer as a flow. How it is drawn stands in `drawing`, and how it answers in `flowing`.
-ghost use Rattle.std.specs.Prelude.{ℕ, ◌^◌, ◌<◌, ◌≤◌, slice_index};
+ghost use Rattle.std.specs.Prelude.{ℕ, ◌^◌, ◌<◌, ◌≤◌, length, slice_index};
 
 use crate::arrow::Arrow;
+use arrayvec::ArrayVec;
 use flows::Counts;
 
 mod drawing;
@@ -18,17 +19,12 @@ const MOST_LINES: usize = 256;
 pub struct ChartFlow {
     // How many situations and actions there are.
     counts: Counts,
-    // How many states there are.
-    states: u8,
     // For each state, the situations in which a run may end there, a bit for each.
-    ends: [u64; MOST_STATES],
-    // The move lines, in the places before `used`.
-    arrows: [Arrow; MOST_LINES],
-    used: usize,
-    // There is a mask for every state.
-    ghost few: { states ≤ 255 },
+    ends: ArrayVec<u64, MOST_STATES>,
+    // The move lines.
+    arrows: ArrayVec<Arrow, MOST_LINES>,
+    // A state fits a byte.
+    ghost few: { length ends.items ≤ 255 },
     // A run ends in situations alone, so no mask has a bit past them.
-    ghost within: { (state : ℕ) → state < states → slice_index ends state < 2 ^ counts.situations },
-    // There is a place for every arrow.
-    ghost room: { used ≤ 256 },
+    ghost within: { (state : ℕ) → slice_index ends.items state < 2 ^ counts.situations },
 }

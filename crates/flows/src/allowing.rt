@@ -10,10 +10,13 @@ pub fn allows<F: Flow>(flow: &F, run: &[u8]) -> bool
     ensures as_written { result ≡ allows_written (F.Flow.meaning flow.now) run.now }
 {
     let mut code = flow.start();
-    let mut place = 0;
-    while place + 1 < run.len() {
-        code = flow.next(code, run[place], run[place + 1]);
-        place += 2;
+    let mut rest = run;
+    while let [situation, action, later @ ..] = rest {
+        code = flow.next(code, *situation, *action);
+        rest = later;
     }
-    place < run.len() && masks::has(flow.accept(code), run[place])
+    match rest {
+        [last] => masks::has(flow.accept(code), *last),
+        _ => false,
+    }
 }

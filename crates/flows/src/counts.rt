@@ -26,7 +26,7 @@ impl Counts {
     pub fn new(situations: u8, actions: u8) -> Option<Counts>
         ensures counts { option_map (λ c. (c.situations, c.actions)) result ≡ counted situations actions }
     {
-        if 1 <= situations && situations <= MOST_SITUATIONS && actions <= MOST_ACTIONS {
+        if (1..=MOST_SITUATIONS).contains(&situations) && actions <= MOST_ACTIONS {
             Some(Counts {
                 situations,
                 actions,

@@ -2,15 +2,11 @@
 ghost use Rattle.kat.specs.Theorems.{PassesIsAllowed, PlacesAllowTheRuns};
 
 // A term passes in a situation exactly when it allows the run of that situation alone.
-pub fn passing_is_allowing_one_situation() -> u8
+pub fn passing_is_allowing_one_situation()
     ensures passes_is_allowed { PassesIsAllowed }
-{
-    0
-}
+{}
 
 // The flow of a term's places allows a run exactly when the term does.
-pub fn places_allow_the_runs() -> u8
+pub fn places_allow_the_runs()
     ensures exactly_the_runs_of_the_term { PlacesAllowTheRuns }
-{
-    0
-}
+{}

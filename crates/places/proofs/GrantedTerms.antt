@@ -33,12 +33,12 @@ laid_where false e rule before after is now' = let same : rule ≡ record { node
 
 -- So its nodes stand for the term.
 pub granted_term : (read : Result Term RuleFault) (rule : Rule) (before after : List Node) → rule.nodes < 256
-    → Ok rule ≡ rule_of (length before) read → after ≡ nodes_after before read → (e : Term) → read ≡ Ok e → term_of (take 256 (take (rule.nodes - 0) after)) ≡ e
+    → Ok rule ≡ rule_of (length before) read → after ≡ nodes_after before read → (e : Term) → read ≡ Ok e → term_of (take 256 (take rule.nodes after)) ≡ e
 granted_term read rule before after few answer afterwards e is =
     let so = laid_where (ltb (length before) (size e)) e rule before after (answer ∙ ap (rule_of (length before)) is) (afterwards ∙ ap (nodes_after before) is) in
     let long = length_flat 0 e in
-    let count : rule.nodes - 0 ≡ length (flat 0 e) = omega (arith, so.nodes) in
-    let mine : take (rule.nodes - 0) after ≡ flat 0 e = ap₂ take count so.laid ∙ take-append-le (length (flat 0 e)) (flat 0 e) (drop (size e) before) (omega arith) ∙ take_all (length (flat 0 e)) (flat 0 e) (omega arith) in
+    let count : rule.nodes ≡ length (flat 0 e) = omega (arith, so.nodes) in
+    let mine : take rule.nodes after ≡ flat 0 e = ap₂ take count so.laid ∙ take-append-le (length (flat 0 e)) (flat 0 e) (drop (size e) before) (omega arith) ∙ take_all (length (flat 0 e)) (flat 0 e) (omega arith) in
     ap (λ nodes. term_of (take 256 nodes)) mine
     ∙ ap term_of (take_all 256 (flat 0 e) (omega (arith, so.nodes)))
     ∙ term_of_flat e

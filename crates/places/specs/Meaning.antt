@@ -10,11 +10,11 @@ use Rattle.places.specs.declared.flow.RuleFlow.{RuleFlow}
 
 -- It means the flow that its tables tell.
 abbrev pub rule_meaning : RuleFlow → FlowMeaning
-rule_meaning x = table_flow x.situations x.actions (λ s. slice_index x.ends s) (λ s p. slice_index (slice_index_or x.follows s []) p) (λ a. slice_index x.owned a)
+rule_meaning x = table_flow x.counts.situations x.counts.actions (λ s. slice_index x.ends s) (λ s p. slice_index (slice_index_or x.follows s []) p) (λ a. slice_index x.owned a)
 
 -- Its counts are within the limits, and a question out of range gives the code back.
 pub rule_lawful : (x : RuleFlow) → Lawful (rule_meaning x)
-rule_lawful x = table_lawful x.situations x.actions (λ s. slice_index x.ends s) (λ s p. slice_index (slice_index_or x.follows s []) p) (λ a. slice_index x.owned a) x.some x.most x.few
+rule_lawful x = table_lawful x.counts.situations x.counts.actions (λ s. slice_index x.ends s) (λ s p. slice_index (slice_index_or x.follows s []) p) (λ a. slice_index x.owned a) x.counts.some x.counts.most x.counts.few
 
 -- The flow of a term's places over what is laid out on a sheet: its situations, where its tests hold, and the actions that are named.
 abbrev pub places_on : LaidOut → Term → FlowMeaning

@@ -13,13 +13,14 @@ fn union_of(row: &[u64; PLACES], code: u64) -> u64
 {
     let mut union = 0;
     let mut rest = code;
-    let mut place = 0;
-    while rest != 0 {
+    for mask in row {
+        if rest == 0 {
+            break;
+        }
         if rest % 2 == 1 {
-            union |= row[place];
+            union |= *mask;
         }
         rest /= 2;
-        place += 1;
     }
     union
 }
@@ -30,11 +31,11 @@ impl Flow for RuleFlow {
     ghost lawful = { rule_lawful };
 
     fn situations(&self) -> u8 {
-        self.situations
+        self.counts.situations
     }
 
     fn actions(&self) -> u8 {
-        self.actions
+        self.counts.actions
     }
 
     fn start(&self) -> u64 {
@@ -43,8 +44,8 @@ impl Flow for RuleFlow {
 
     fn accept(&self, code: u64) -> u64 {
         let mut accepted = 0;
-        for s in 0..self.situations {
-            if code & self.ends[s as usize] != 0 {
+        for s in 0..self.counts.situations {
+            if code & self.ends[usize::from(s)] != 0 {
                 accepted += 1 << s;
             }
         }
@@ -52,8 +53,8 @@ impl Flow for RuleFlow {
     }
 
     fn next(&self, code: u64, situation: u8, action: u8) -> u64 {
-        if situation < self.situations && action < self.actions {
-            self.owned[action as usize] & union_of(&self.follows[situation as usize], code)
+        if situation < self.counts.situations && action < self.counts.actions {
+            self.owned[usize::from(action)] & union_of(&self.follows[usize::from(situation)], code)
         } else {
             code
         }

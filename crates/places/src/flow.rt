@@ -1,5 +1,6 @@
 // The flow of a rule's places. How it is prepared stands in `preparing`, and how it answers in `answering`.
-ghost use Rattle.std.specs.Prelude.{◌≤◌};
+
+use flows::Counts;
 
 // How many places there are room for. Place 0 is the start.
 pub(crate) const PLACES: usize = 64;
@@ -13,20 +14,12 @@ pub(crate) const ACTIONS: usize = 16;
 // Masks of places: a code marks places, and what comes next is read off the masks of the marked ones.
 #[derive(Drop)]
 pub struct RuleFlow {
-    // How many situations there are.
-    pub(crate) situations: u8,
-    // How many actions there are.
-    pub(crate) actions: u8,
+    // How many situations and actions there are.
+    pub(crate) counts: Counts,
     // For each situation, the places behind which a run may end there.
     pub(crate) ends: [u64; SITUATIONS],
     // For each situation and place, the places that may come next.
     pub(crate) follows: [[u64; PLACES]; SITUATIONS],
     // For each action, its places.
     pub(crate) owned: [u64; ACTIONS],
-    // A vocabulary has a situation.
-    ghost some: { 1 ≤ situations },
-    // A vocabulary has no more.
-    ghost most: { situations ≤ 64 },
-    // A sheet has no more.
-    ghost few: { actions ≤ 16 },
 }

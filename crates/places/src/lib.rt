@@ -3,10 +3,12 @@
 #![tactic(auto)]
 
 mod answering;
+mod filling;
 mod firsts;
 mod flow;
 mod lasts;
 mod nexts;
+mod nodes;
 mod owned;
 mod parts;
 mod passing;

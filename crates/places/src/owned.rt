@@ -1,31 +1,29 @@
 // Which places each node has for an action.
-ghost use Rattle.std.specs.Prelude.{◌≡◌, ◌≤◌, length};
-ghost use Rattle.tables.specs.Masks.{Tells, action_mask};
-ghost use Rattle.tables.specs.Parts.{action_node, part_in};
+ghost use Rattle.std.specs.Prelude.{◌≡◌, slice_index};
+ghost use Rattle.tables.specs.Masks.{action_mask, term_of};
+ghost use Rattle.tables.specs.Parts.{action_node};
 
-use crate::parts::{NODES, part, place_bit};
+use crate::nodes::RuleNodes;
+use crate::parts::{part, place_bit};
 use rules::Node;
 
 // The places of an action in a node, by those in the nodes in front of it.
-fn action_node(node: Node, i: usize, action: u8, own: &[u64; NODES]) -> u64
-    ensures { result ≡ action_node action (part_in own.now i) node }
+fn action_node(node: Node, action: u8, front: &[u64]) -> u64
+    ensures told { result ≡ action_node action (slice_index front.now) node }
 {
     match node {
         Node::Action(a, p) => if a == action { place_bit(p) } else { 0 },
-        Node::Choice(a, b) | Node::Chain(a, b) => part(own, i, a) | part(own, i, b),
-        Node::Star(a) => part(own, i, a),
+        Node::Choice(a, b) | Node::Chain(a, b) => part(front, a) | part(front, b),
+        Node::Star(a) => part(front, a),
         _ => 0,
     }
 }
 
-// The places of an action in each node.
-pub(crate) fn action_masks(nodes: &[Node], action: u8) -> [u64; NODES]
-    requires { length nodes.now ≤ 256 }
-    ensures { Tells (action_mask action) nodes.now result }
-{
-    let mut own = [0; NODES];
-    for (i, node) in nodes.iter().enumerate() {
-        own[i] = action_node(*node, i, action, &own);
+impl RuleNodes<'_> {
+    // The places of an action in the rule.
+    pub(crate) fn places_of(&self, action: u8) -> u64
+        ensures owned { result ≡ action_mask action (term_of self.now.nodes.now) }
+    {
+        self.at_root(&self.masks(|node, front| action_node(node, action, front)))
     }
-    own
 }

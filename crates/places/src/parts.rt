@@ -1,19 +1,18 @@
 // The masks of the nodes of a rule, and what is read off them.
-ghost use Rattle.std.specs.Prelude.{◌≡◌};
-ghost use Rattle.tables.specs.Parts.{part_in, place_bit};
+ghost use Rattle.std.specs.Prelude.{◌≡◌, slice_index};
+ghost use Rattle.tables.specs.Parts.{place_bit};
 
 // How many nodes are looked at: as many as a part can name.
 pub(crate) const NODES: usize = 256;
 
-// The mask of a part of node `i`; one that does not stand in front of the node has no bit.
-pub(crate) fn part(masks: &[u64; NODES], i: usize, place: u8) -> u64
-    ensures { result ≡ part_in masks.now i place }
+// A mask for each node.
+pub(crate) type Masks = [u64; NODES];
+
+// The mask of a part, among those of the nodes in front; one that does not stand there has no bit.
+pub(crate) fn part(front: &[u64], place: u8) -> u64
+    ensures { result ≡ slice_index front.now place }
 {
-    if (place as usize) < i {
-        masks[place as usize]
-    } else {
-        0
-    }
+    front.get(usize::from(place)).copied().unwrap_or(0)
 }
 
 // The mask of one place; those from 64 on have none.

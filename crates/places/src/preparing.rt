@@ -1,85 +1,54 @@
 // How the flow of a rule is prepared.
-ghost use Rattle.std.specs.Prelude.{◌≡◌, ℕ, ◌≤◌, Bool, length, take};
+ghost use Rattle.std.specs.Prelude.{◌≡◌, ◌<◌, take};
 ghost use Rattle.sheet.specs.Laid.{sheet_of};
-ghost use Rattle.tables.specs.Masks.{ActionsTable, EndsTable, FollowsFrom, FollowsTable, Tells, WherePasses, end_mask, pass_mask, term_of};
+ghost use Rattle.tables.specs.Masks.{FollowsFrom, WhereKnown, WherePasses, end_mask, follow_mask, term_of};
 ghost use Rattle.places.specs.Meaning.{IsThePlacesOf, rule_meaning};
 
-use crate::firsts::first_masks;
-use crate::flow::{ACTIONS, PLACES, RuleFlow, SITUATIONS};
-use crate::lasts::last_masks;
-use crate::nexts::next_masks;
-use crate::owned::action_masks;
-use crate::parts::NODES;
-use crate::passing::pass_masks;
+use crate::filling::table_of;
+use crate::flow::{PLACES, RuleFlow};
+use crate::nexts::Edges;
+use crate::nodes::RuleNodes;
+use crate::passing::Passing;
+use flows::Counts;
 use masks::has;
 use rules::Node;
 use sheet::Sheet;
 use vocabulary::Vocabulary;
 
-// The places behind which a rule may end in a situation; the start is one of them where the rule passes.
-fn ends_in(nodes: &[Node], pass: &[u64; NODES], s: u8) -> u64
-    requires { length nodes.now ≤ 256 }
-    ensures { WherePasses nodes.now pass.now s (λ holds. result ≡ end_mask holds s (term_of nodes.now)) }
-{
-    let root = nodes.len().saturating_sub(1);
-    let last = last_masks(nodes, pass, s);
-    let start = if has(pass[root], s) { 1 } else { 0 };
-    start | last[root]
+impl RuleNodes<'_> {
+    // The places that may come next behind place `p`; behind the start they are those that the rule begins with.
+    fn following(&self, edges: &Edges, p: u8) -> u64
+        requires of_place { p < 64 }
+        ensures followed { WhereKnown self.now.nodes.now edges.now.first edges.now.last (λ holds s. result ≡ follow_mask holds s p (term_of self.now.nodes.now)) }
+    {
+        let begun = if p == 0 {
+            self.at_root(&edges.first)
+        } else {
+            0
+        };
+        begun | self.at_root(&self.next_masks(edges, p))
+    }
 }
 
-// For each place, those that may come next in a situation; behind the start they are those that the rule begins with.
-fn follows_in(nodes: &[Node], pass: &[u64; NODES], s: u8) -> [u64; PLACES]
-    requires { length nodes.now ≤ 256 }
-    ensures { WherePasses nodes.now pass.now s (λ holds. FollowsFrom holds s (term_of nodes.now) result) }
-{
-    let root = nodes.len().saturating_sub(1);
-    let first = first_masks(nodes, pass, s);
-    let last = last_masks(nodes, pass, s);
-    let mut row = [0; PLACES];
-    for p in 0..64 {
-        let begun = if p == 0 { first[root] } else { 0 };
-        let next = next_masks(nodes, &first, &last, p);
-        row[p as usize] = begun | next[root];
+impl Passing<'_> {
+    // The places behind which the rule may end in a situation; the start is one of them where the rule passes.
+    fn ends_in(&self, s: u8) -> u64
+        ensures ended { WherePasses self.now.rule.nodes.now self.now.pass s (λ holds. result ≡ end_mask holds s (term_of self.now.rule.nodes.now)) }
+    {
+        let start = u64::from(has(self.rule.at_root(&self.pass), s));
+        start | self.rule.at_root(&self.last_masks(s))
     }
-    row
-}
 
-// For each situation, the places behind which a rule may end.
-fn ends_table(nodes: &[Node], pass: &[u64; NODES], situations: u8) -> [u64; SITUATIONS]
-    requires { (length nodes.now ≤ 256) × (situations ≤ 64) }
-    ensures { (holds : ℕ → ℕ → Bool) → Tells (pass_mask situations holds) nodes.now pass.now → EndsTable situations holds (term_of nodes.now) result }
-{
-    let mut table = [0; SITUATIONS];
-    for s in 0..situations {
-        table[s as usize] = ends_in(nodes, pass, s);
+    // For each place, those that may come next in a situation.
+    fn follows_in(&self, s: u8) -> [u64; PLACES]
+        ensures followed { WherePasses self.now.rule.nodes.now self.now.pass s (λ holds. FollowsFrom holds s (term_of self.now.rule.nodes.now) result) }
+    {
+        let edges = Edges {
+            first: self.first_masks(s),
+            last: self.last_masks(s),
+        };
+        table_of(64, 0, |p| self.rule.following(&edges, p))
     }
-    table
-}
-
-// For each situation and place, the places that may come next.
-fn follows_table(nodes: &[Node], pass: &[u64; NODES], situations: u8) -> [[u64; PLACES]; SITUATIONS]
-    requires { (length nodes.now ≤ 256) × (situations ≤ 64) }
-    ensures { (holds : ℕ → ℕ → Bool) → Tells (pass_mask situations holds) nodes.now pass.now → FollowsTable situations holds (term_of nodes.now) result }
-{
-    let mut table = [[0; PLACES]; SITUATIONS];
-    for s in 0..situations {
-        table[s as usize] = follows_in(nodes, pass, s);
-    }
-    table
-}
-
-// For each action, its places.
-fn owned_table(nodes: &[Node], actions: u8) -> [u64; ACTIONS]
-    requires { (length nodes.now ≤ 256) × (actions ≤ 16) }
-    ensures { ActionsTable actions (term_of nodes.now) result }
-{
-    let root = nodes.len().saturating_sub(1);
-    let mut table = [0; ACTIONS];
-    for a in 0..actions {
-        let own = action_masks(nodes, a);
-        table[a as usize] = own[root];
-    }
-    table
 }
 
 impl RuleFlow {
@@ -88,17 +57,22 @@ impl RuleFlow {
     pub fn over(nodes: &[Node], sheet: &Sheet) -> RuleFlow
         ensures as_its_places { IsThePlacesOf (sheet_of sheet.now) (term_of (take 256 nodes.now)) (rule_meaning result) }
     {
-        let nodes = &nodes[0..nodes.len().min(NODES)];
+        let rule = RuleNodes::of(nodes);
         let vocabulary = sheet.vocabulary();
-        let situations = vocabulary.situations();
-        let actions = sheet.names().actions();
-        let pass = pass_masks(nodes, vocabulary);
+        let counts = Counts {
+            situations: vocabulary.situations(),
+            actions: sheet.names().actions(),
+        };
+        let passing = Passing::of(rule, vocabulary);
+        // Of a closure that gives an array the check infers no clause, so this one has its own.
+        let follows_in = |s: u8| -> [u64; PLACES]
+            ensures followed { WherePasses passing.entry.rule.nodes.now passing.entry.pass s (λ holds. FollowsFrom holds s (term_of passing.entry.rule.nodes.now) result) }
+        { passing.follows_in(s) };
         RuleFlow {
-            situations,
-            actions,
-            ends: ends_table(nodes, &pass, situations),
-            follows: follows_table(nodes, &pass, situations),
-            owned: owned_table(nodes, actions),
+            counts,
+            ends: table_of(counts.situations, 0, |s| passing.ends_in(s)),
+            follows: table_of(counts.situations, [0; PLACES], follows_in),
+            owned: table_of(counts.actions, 0, |action| rule.places_of(action)),
         }
     }
 }

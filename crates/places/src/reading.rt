@@ -21,6 +21,6 @@ impl RuleFlow {
         ensures granted_exactly_for_rules { GrantedExactlyForRules (means_on (sheet_of sheet.now)) text.now }
     {
         let rule = read_rule(text, sheet.names(), nodes)?;
-        Ok(RuleFlow::over(&nodes[0..rule.nodes as usize], sheet))
+        Ok(RuleFlow::over(&nodes[..usize::from(rule.nodes)], sheet))
     }
 }

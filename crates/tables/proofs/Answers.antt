@@ -1,9 +1,8 @@
 -- What the flow of the tables answers, bit by bit.
-use Rattle.std.proofs.Common.{◌≡◌, ℕ, zero, suc, ◌+◌, ◌-◌, ◌/◌, ◌%◌, ◌^◌, ◌<◌, ◌≤◌, Bool, true, false, ◌&&◌, ◌||◌, eqb, sym, refl, ap, ◌∙◌, ap₂, ⊎_elim, add-one, arith, pow_mono}
-use native.Mathlib.Nat.{div-eq_of_lt}
+use Rattle.std.proofs.Common.{◌≡◌, ℕ, zero, suc, ◌+◌, ◌-◌, ◌/◌, ◌%◌, ◌^◌, ◌<◌, ◌≤◌, Bool, true, false, ◌&&◌, ◌||◌, eqb, sym, refl, ap, ◌∙◌, ap₂, ⊎_elim, add-one, arith}
 use lib.Bits.{and_le_l, and_le_r, bit_and, bit_or}
 use Rattle.std.proofs.lemmas.Nat.{shr-shr}
-use Rattle.std.proofs.lemmas.Bool.{cases_Bool, cases_eq, cases_lt, eq-eqb, ne_eqb, or_parts}
+use Rattle.std.proofs.lemmas.Bool.{cases_Bool, cases_eq, eq-eqb, ne_eqb, or_parts}
 use Rattle.masks.specs.Bits.{bit}
 use Rattle.masks.proofs.Bits.{bit_of_bits, bits_fit, bits_of_fitting, no_bits}
 use Rattle.masks.proofs.Operations.{bit-and, bit-or, bit_zero, bits_same}
@@ -59,13 +58,6 @@ pub gone_none : (row : ℕ → ℕ) (code : ℕ) → Gone row code 0 code 0
 unfolding any_below
 gone_none row code = record { shifted = omega arith; so_far = λ q. bit_zero q }
 
--- While places are marked that were not gone through, fewer than 64 were.
-pub gone_few : (code p rest : ℕ) → code < 2 ^ 64 → rest ≡ code / 2 ^ p → (rest ≡ 0 → ⊥) → p < 64
-gone_few code p rest fits is some =
-    ⊎_elim (λ (h : p < 64). h)
-    (λ (h : 64 ≤ p). let top : 2 ^ 64 ≤ 2 ^ p = pow_mono h in let below : code < 2 ^ p = omega arith in absurd (some (is ∙ div-eq_of_lt below)))
-    (cases_lt p 64)
-
 shifted_more : (code p rest : ℕ) → rest ≡ code / 2 ^ p → rest / 2 ≡ code / 2 ^ (p + 1)
 shifted_more code p rest is = ap (λ x. x / 2) is ∙ shr-shr code p 1
 
@@ -103,7 +95,8 @@ later row code p q (suc more) none =
     ∙ or_false (any_below (λ k. bit k code && bit q (row k)) (p + more))
     ∙ later row code p q more none
 
-pub gone_all : (row : ℕ → ℕ) (code p rest union : ℕ) → p ≤ 64 → Gone row code p rest union → rest ≡ 0 → (q : ℕ) → bit q union ≡ reaches row code q
-gone_all row code p rest union le gone none q =
+-- Where no place is left that is marked, or all are gone through, the union is whole.
+pub gone_all : (row : ℕ → ℕ) (code p rest union : ℕ) → Gone row code p rest union → rest ≡ 0 → p ≤ 64 → (q : ℕ) → bit q union ≡ reaches row code q
+gone_all row code p rest union gone none le q =
     let whole : 64 ≡ p + (64 - p) = omega arith in
     gone.so_far q ∙ sym (later row code p q (64 - p) (sym gone.shifted ∙ none)) ∙ ap (any_below (λ k. bit k code && bit q (row k))) (sym whole)

@@ -1,13 +1,14 @@
--- A pass over the nodes from the first on: each node's mask is written where those of the nodes in front of it stand.
-use Rattle.std.proofs.Common.{◌≡◌, ℕ, zero, suc, ◌+◌, ◌<◌, ◌≤◌, ◌≢◌, List, length, get_or, set, replicate, sym, refl, ap, ◌∙◌, subst, ⊎_elim, arith, length-set, get_or-set_other, get_or-set_same}
-use Rattle.std.proofs.lemmas.List.{get_or_past, get_or-replicate}
-use Rattle.std.proofs.lemmas.Bool.{cases_eq, cases_lt, cond-false, cond-true, le-ltb, lt-ltb}
+-- A pass over the nodes from the first on: each node's mask is told from those of the nodes in front of it.
+use Rattle.std.proofs.Common.{◌≡◌, ℕ, zero, suc, ◌<◌, ◌≤◌, List, length, get_or, take, sym, ap, ◌∙◌, ⊎_elim, arith, length-take}
+use Rattle.std.proofs.lemmas.List.{get_or-take, get_or_past}
+use Rattle.std.proofs.lemmas.Bool.{cases_lt, cond-false, cond-true, le-ltb, lt-ltb}
 use Rattle.kat.specs.Terms.{Term, stop}
 use Rattle.rules.specs.Nodes.{term_at}
 use Rattle.tables.specs.Decoded.{decode, decode_with, in_front}
 use Rattle.rules.specs.declared.node.Node.{Node}
 use Rattle.rules.specs.declared.node.Node.TheVariants.{Empty}
-use Rattle.tables.specs.Parts.{part_in}
+use Rattle.tables.specs.Masks.{Tells}
+use Rattle.tables.proofs.Nodes.{Has}
 
 -- What stands in front is the same where the parts in front are.
 same_in_front : (f g : ℕ → Term) (root k : ℕ) → (k < root → f k ≡ g k) → in_front root f k ≡ in_front root g k
@@ -31,44 +32,41 @@ decode_step nodes i =
     ap (λ part. term_at part (get_or nodes i Empty))
     (λ x j. same_in_front (decode_with i nodes) (decode nodes) i j (λ lt. fuel_enough i (suc j) nodes j lt (omega arith)) x)
 
--- The masks of the first i places are as f says, and no other is written yet.
-pub record Sofar (f : ℕ → ℕ) (i : ℕ) (masks : List ℕ) : Type 0 where
-  pub long : length masks ≡ 256
-  pub known : (k : ℕ) → k < i → get_or masks k 0 ≡ f k
-  pub blank : (k : ℕ) → i ≤ k → get_or masks k 0 ≡ 0
+-- The mask of a part, among those of the nodes in front of node k.
+abbrev pub part_in : List ℕ → ℕ → ℕ → ℕ
+part_in masks k part = get_or (take k masks) part 0
 
-pub none_yet : (f : ℕ → ℕ) → Sofar f 0 (replicate 256 0)
-none_yet f = record {
-  long = refl;
-  known = λ k h. absurd (omega arith);
-  blank = λ k h. ⊎_elim (λ (lt : k < 256). get_or-replicate 256 k 0 0 lt) (λ (le : 256 ≤ k). get_or_past (replicate 256 0) k 0 le) (cases_lt k 256);
-}
-
-pub turn : (f : ℕ → ℕ) (i v : ℕ) (masks : List ℕ) → i < 256 → Sofar f i masks → v ≡ f i → Sofar f (i + 1) (set masks i v)
-turn f i v masks h so is = record {
-  long = length-set masks i v ∙ so.long;
-  known = λ k lt. ⊎_elim
-      (λ (e : k ≡ i). let room : i < length masks = omega (arith, so.long) in
-      subst (λ j. get_or (set masks i v) j 0 ≡ f j) (sym e) (get_or-set_same masks i v 0 room ∙ is))
-      (λ (ne : k ≡ i → ⊥). get_or-set_other masks i k v 0 ne ∙ so.known k (omega arith))
-      (cases_eq k i);
-  blank = λ k le. let ne : k ≢ i = λ e. absurd (omega arith) in get_or-set_other masks i k v 0 ne ∙ so.blank k (omega arith);
-}
-
-module _ (mask : Term → ℕ) (nothing : mask stop ≡ 0) (nodes : List Node) where
-  -- Where the masks of the nodes in front of i are known, so are those of its parts.
-  pub part_known : (masks : List ℕ) (i : ℕ) → ((k : ℕ) → k < i → get_or masks k 0 ≡ mask (decode nodes k)) → (k : ℕ) → part_in masks i k ≡ mask (in_front i (decode nodes) k)
-  part_known masks i known k =
+module _ (mask : Term → ℕ) (nothing : mask stop ≡ 0) (nodes : List Node) (masks : List ℕ) where
+  -- Where the masks of the nodes in front of node k are known, so are those of its parts.
+  pub part_known : (k : ℕ) → ((p : ℕ) → p < k → get_or masks p 0 ≡ mask (decode nodes p)) → (p : ℕ) → part_in masks k p ≡ mask (in_front k (decode nodes) p)
+  part_known k known p =
       ⊎_elim
-      (λ (h : k < i). cond-true _ _ _ (lt-ltb k i h) ∙ known k h ∙ ap mask (sym (cond-true _ _ _ (lt-ltb k i h))))
-      (λ (h : i ≤ k). cond-false _ _ _ (le-ltb k i h) ∙ sym nothing ∙ ap mask (sym (cond-false _ _ _ (le-ltb k i h))))
-      (cases_lt k i)
+      (λ (h : p < k). get_or-take k masks p 0 h ∙ known p h ∙ ap mask (sym (cond-true _ _ _ (lt-ltb p k h))))
+      (λ (h : k ≤ p).
+      let short = length-take k masks in
+      get_or_past (take k masks) p 0 (omega arith) ∙ sym nothing ∙ ap mask (sym (cond-false _ _ _ (le-ltb p k h))))
+      (cases_lt p k)
 
   -- Behind the nodes nothing stands.
   beyond : (k : ℕ) → length nodes ≤ k → mask (decode nodes k) ≡ 0
   beyond k h = ap (λ node. mask (term_at (in_front k (decode_with k nodes)) node)) (get_or_past nodes k Empty h) ∙ nothing
 
-  -- With every node's mask written, all are known.
-  pub done : (masks : List ℕ) → Sofar (λ k. mask (decode nodes k)) (length nodes) masks → (k : ℕ) → get_or masks k 0 ≡ mask (decode nodes k)
-  done masks so k =
-      ⊎_elim (λ (h : k < length nodes). so.known k h) (λ (h : length nodes ≤ k). so.blank k h ∙ sym (beyond k h)) (cases_lt k (length nodes))
+  module _ (step : ℕ → (ℕ → ℕ) → Node → ℕ)
+      (told : (k : ℕ) → k < length nodes → get_or masks k 0 ≡ step k (part_in masks k) (get_or nodes k Empty))
+      (blank : (k : ℕ) → length nodes ≤ k → get_or masks k 0 ≡ 0)
+      (right : (k : ℕ) (part : ℕ → ℕ) → Has mask part (in_front k (decode nodes)) → (node : Node) → step k part node ≡ mask (term_at (in_front k (decode nodes)) node)) where
+    -- Where a step tells each node's mask rightly from right masks of its parts, the first n masks are right.
+    right_below : (n k : ℕ) → k < n → get_or masks k 0 ≡ mask (decode nodes k)
+    right_below zero k h = absurd (omega arith)
+    right_below (suc n) k h =
+        ⊎_elim
+        (λ (inside : k < length nodes).
+        told k inside
+        ∙ right k (part_in masks k) (part_known k (λ p lt. right_below n p (omega arith))) (get_or nodes k Empty)
+        ∙ ap mask (sym (decode_step nodes k)))
+        (λ (past : length nodes ≤ k). blank k past ∙ sym (beyond k past))
+        (cases_lt k (length nodes))
+
+    -- So all are.
+    pub upward : Tells mask nodes masks
+    upward k = right_below (suc k) k (omega arith)

@@ -1,12 +1,8 @@
 -- What a node adds to the masks of its parts.
-use Rattle.std.specs.Prelude.{ℕ, ◌-◌, ◌^◌, cond, List, ◌==◌, bit_and, bit_or, nat_lt, slice_index}
+use Rattle.std.specs.Prelude.{ℕ, ◌-◌, ◌^◌, cond, ◌==◌, bit_and, bit_or, nat_lt}
 use Rattle.masks.specs.Bits.{bit}
 use Rattle.rules.specs.declared.node.Node.{Node}
 use Rattle.rules.specs.declared.node.Node.TheVariants.{Empty, Test, Action, Skip, Stop, Not, Choice, Chain, Star}
-
--- The mask of a part that stands in front of node i; one that does not has no bit.
-abbrev pub part_in : List ℕ → ℕ → ℕ → ℕ
-part_in masks i part = cond (nat_lt part i) (slice_index masks part) 0
 
 -- The mask of one place; those from 64 on have none.
 abbrev pub place_bit : ℕ → ℕ

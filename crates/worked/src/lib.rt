@@ -5,8 +5,6 @@
 ghost use Rattle.worked.specs.Worked.{Worked};
 
 // The worked cases come out as they were worked by hand.
-pub fn worked_cases_come_out_so() -> u8
+pub fn worked_cases_come_out_so()
     ensures as_worked_by_hand { Worked }
-{
-    0
-}
+{}

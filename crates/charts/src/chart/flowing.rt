@@ -16,15 +16,10 @@ const NOWHERE: u64 = 255;
 fn first_fitting(arrows: &[Arrow], state: u64, situation: u8, action: u8) -> u64
     ensures leads { result ≡ along arrows.now 255 state situation action }
 {
-    for arrow in arrows {
-        if arrow.from as u64 == state
-            && masks::has(arrow.mask, situation)
-            && arrow.action == action
-        {
-            return arrow.to as u64;
-        }
-    }
-    NOWHERE
+    arrows
+        .iter()
+        .find(|arrow| arrow.fits(state, situation, action))
+        .map_or(NOWHERE, |arrow| u64::from(arrow.to))
 }
 
 impl Flow for ChartFlow {
@@ -45,17 +40,13 @@ impl Flow for ChartFlow {
     }
 
     fn accept(&self, code: u64) -> u64 {
-        if code < self.states as u64 {
-            self.ends[code as usize]
-        } else {
-            0
-        }
+        self.ends.get(code as usize).copied().unwrap_or(0)
     }
 
     fn next(&self, code: u64, situation: u8, action: u8) -> u64 {
         if situation < self.counts.situations && action < self.counts.actions {
-            if code < self.states as u64 {
-                first_fitting(&self.arrows[0..self.used], code, situation, action)
+            if (code as usize) < self.ends.len() {
+                first_fitting(&self.arrows, code, situation, action)
             } else {
                 NOWHERE
             }

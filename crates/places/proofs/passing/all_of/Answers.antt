@@ -4,4 +4,4 @@ use Rattle.tables.proofs.Unions.{all_shifted}
 use Rattle.places.proofs.passing.all_of.Goals as goal
 
 pub returns : goal.returns
-returns c = all_shifted c.args.situations (omega arith)
+returns c = record { all = all_shifted c.args.situations (omega arith) }

@@ -1,5 +1,5 @@
 -- A refusal is handed on, and the flow of a text that is granted is that of the nodes that it was laid out in.
-use Rattle.std.proofs.Common.{◌≡◌, length, IfOk, Err, Result, sym, ap, ◌∙◌, subst, arith}
+use Rattle.std.proofs.Common.{◌≡◌, length, take, IfOk, Err, Result, sym, ap, ◌∙◌, subst, arith}
 use Rattle.std.proofs.lemmas.Result.{err_from_is_err_and}
 use Rattle.grammar.specs.declared.fault.RuleFault.{RuleFault}
 use Rattle.rules.specs.Granted.{GrantedExactlyForRules}
@@ -7,6 +7,7 @@ use Rattle.rules.specs.Readers.{means_of}
 use Rattle.rules.specs.Rules.{nodes_after, read_text, rule_of}
 use Rattle.sheet.specs.Laid.{sheet_of}
 use Rattle.sheet.specs.Naming.{meaning_of}
+use Rattle.tables.specs.Masks.{term_of}
 use Rattle.places.specs.Meaning.{IsThePlacesOf, rule_meaning}
 use Rattle.places.specs.Reading.{AllowsTheRunsOf, means_on, meant, text_on}
 use Rattle.places.specs.declared.flow.RuleFlow.{RuleFlow}
@@ -45,7 +46,7 @@ returns c =
     let whole = granted_flow laid (length nodes) text (rule_meaning c.over.result) granted one
     (subst (λ e. IsThePlacesOf laid e (rule_meaning c.over.result))
     (granted_term (read_text (means_of c.names.result.now) text) rule nodes c.read_rule.new.nodes (omega arith) told.answer told.nodes_afterwards one.term (read ∙ one.is))
-    c.over.ensures.as_its_places) in
+    (subst (λ k. IsThePlacesOf laid (term_of (take 256 (take k c.read_rule.new.nodes))) (rule_meaning c.over.result)) c.from.ensures c.over.ensures.as_its_places)) in
     record {
       answer = whole.answer;
       allows_exactly_the_runs_of_the_rule = whole.runs;

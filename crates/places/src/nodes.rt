@@ -1,0 +1,44 @@
+// The nodes of a rule, and the masks that are told of them from the first on.
+ghost use Rattle.std.specs.Prelude.{◌≡◌, ◌≤◌, ◌-◌, ◌<◌, length, take, slice_index};
+ghost use Rattle.places.specs.Upward.{MadeUpward};
+
+use crate::parts::{Masks, NODES};
+use rules::Node;
+
+// The nodes of a rule that are looked at; the last is its root.
+#[derive(Clone, Copy)]
+pub(crate) struct RuleNodes<'a> {
+    pub(crate) nodes: &'a [Node],
+    // A part can name each.
+    ghost few: { length nodes.now ≤ 256 },
+}
+
+impl<'a> RuleNodes<'a> {
+    // The first nodes, as many as a part can name.
+    pub(crate) fn of(nodes: &'a [Node]) -> RuleNodes<'a>
+        ensures first { result.nodes.now ≡ take 256 nodes.now }
+    {
+        RuleNodes {
+            nodes: &nodes[..nodes.len().min(NODES)],
+        }
+    }
+
+    // The mask of the root.
+    pub(crate) fn at_root(&self, masks: &Masks) -> u64
+        ensures of_last { result ≡ slice_index masks.now (length self.now.nodes.now - 1) }
+    {
+        masks[self.nodes.len().saturating_sub(1)]
+    }
+
+    // A mask for each node, which a step tells from those of the nodes in front of it.
+    pub(crate) fn masks<F: Fn(Node, &[u64]) -> u64>(&self, step: F) -> Masks
+        requires callable { (node : _) (front : _) → length front.now < 256 → F.pre step node front }
+        ensures upward { MadeUpward (F.post step) self.now.nodes.now result }
+    {
+        let mut masks = [0; NODES];
+        for (i, node) in self.nodes.iter().enumerate() {
+            masks[i] = step(*node, &masks[..i]);
+        }
+        masks
+    }
+}
