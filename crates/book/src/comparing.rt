@@ -30,17 +30,8 @@ impl Book {
         ensures flow_of_the_left { IfOk result (λ both. FlowOfText (book_of self.now) left.now (rule_meaning both.left)) }
         ensures flow_of_the_right { IfOk result (λ both. FlowOfText (book_of self.now) right.now (rule_meaning both.right)) }
     {
-        let first = match self.flow_of(left) {
-            Ok(flow) => flow,
-            Err(fault) => return Err(TextFault::Left(fault)),
-        };
-        let second = match self.flow_of(right) {
-            Ok(flow) => flow,
-            Err(fault) => return Err(TextFault::Right(fault)),
-        };
-        Ok(Compared {
-            left: first,
-            right: second,
-        })
+        let left = self.flow_of(left).map_err(TextFault::Left)?;
+        let right = self.flow_of(right).map_err(TextFault::Right)?;
+        Ok(Compared { left, right })
     }
 }

@@ -1,14 +1,8 @@
 -- Answers as text.
-use Rattle.std.specs.Prelude.{◌≡◌, ℕ, List, ◌++◌, Some, None, codes, decimal, Option}
-use Rattle.refusals.specs.declared.Layer.{Layer}
-use Rattle.refusals.specs.declared.Layer as layer
-use Rattle.refusals.specs.declared.Refusal.{Refusal}
+use Rattle.std.specs.Prelude.{ℕ, List, ◌++◌, Some, None, codes, decimal, Option}
+use Rattle.refusals.specs.Shown.{refusal_text}
 use Rattle.script.specs.Asked.{Call, action, opening, reading, test, vocabulary}
 use Rattle.desk.specs.Replies.{Said, has_read, made, number, opened_with, refused, refused_on}
-
--- A text is put behind what was there.
-pub record Adds (text was after : List ℕ) : Type 0 where
-  pub is : after ≡ was ++ text
 
 -- The call as an answer begins with it: its word, and the name that it is about.
 abbrev pub heading : Call → List ℕ
@@ -17,20 +11,6 @@ heading (test name) = codes "test " ++ name
 heading (action name) = codes "action " ++ name
 heading opening = codes "open"
 heading (reading text) = codes "read"
-
--- The layers by their words.
-abbrev pub layer_word : Layer → List ℕ
-layer_word layer.TheVariants.Vocabulary = codes "vocabulary"
-layer_word layer.TheVariants.Names = codes "names"
-layer_word layer.TheVariants.Signs = codes "signs"
-layer_word layer.TheVariants.Rule = codes "rule"
-layer_word layer.TheVariants.Chart = codes "chart"
-layer_word layer.TheVariants.Book = codes "book"
-layer_word layer.TheVariants.Walk = codes "walk"
-
--- A refusal: its layer, number and place.
-abbrev pub refusal_text : Refusal → List ℕ
-refusal_text refusal = codes "refused, " ++ (layer_word refusal.layer ++ (codes " " ++ (decimal refusal.number ++ (codes " at " ++ decimal refusal.place))))
 
 -- What stands behind the call in an answer. The sign that a refusal is for stands between quotation marks.
 abbrev pub reply_text : Said → List ℕ

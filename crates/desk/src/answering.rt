@@ -3,7 +3,7 @@ ghost use Rattle.std.specs.Prelude.{◌≡◌, IfOk, OnOk};
 ghost use Rattle.script.specs.Asked.{asked};
 ghost use Rattle.desk.specs.Answering.{answered};
 ghost use Rattle.desk.specs.Performing.{desk_of};
-ghost use Rattle.desk.specs.Texts.{Adds};
+ghost use Rattle.texts.specs.Adds.{Adds};
 
 use crate::desk::Desk;
 use crate::text::{put_answer, put_not_understood};

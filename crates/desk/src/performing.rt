@@ -14,6 +14,7 @@ use refusals::Refusal;
 use rules::{Rule, faulty_sign};
 use script::{Command, Part};
 use sheet::{NameFault, Sheet};
+use signs::SignFault;
 use std::alloc::{AllocError, Global};
 use vocabulary::Vocabulary;
 
@@ -27,7 +28,8 @@ fn naming_reply<'a>(named: Result<u8, NameFault>) -> Reply<'a>
     }
 }
 
-// The answer to reading a rule's text. Refusals 6 to 12 are for a sign.
+// The answer to reading a rule's text. All refusals but that of a text too long and that of too few nodes, which
+// are those with the numbers 6 to 12, are for a sign.
 fn reading_reply<'a>(text: &'a [u8], read: Result<Rule, RuleFault>) -> Reply<'a>
     ensures { said_by result ≡ read_said text.now read }
 {
@@ -36,14 +38,12 @@ fn reading_reply<'a>(text: &'a [u8], read: Result<Rule, RuleFault>) -> Reply<'a>
             nodes: rule.nodes,
             actions: rule.actions,
         },
-        Err(fault) => {
-            let refusal = Refusal::from(fault);
-            if refusal.number >= 6 && refusal.number <= 12 {
-                Reply::RefusedOn(refusal, faulty_sign(text, fault))
-            } else {
-                Reply::Refused(refusal)
+        Err(fault) => match fault {
+            RuleFault::Sign(SignFault::TextTooLong) | RuleFault::NoRoom => {
+                Reply::Refused(Refusal::from(fault))
             }
-        }
+            _ => Reply::RefusedOn(Refusal::from(fault), faulty_sign(text, fault)),
+        },
     }
 }
 
@@ -131,11 +131,11 @@ impl Desk {
         ensures { Done (desk_of self.old) (call_of command.now) result (desk_of self.new) }
     {
         match command {
-            Command::Vocabulary(parts) => return self.begin(heap, parts),
-            Command::Test(name) => return Ok(self.name_test(name)),
-            Command::Action(name) => return Ok(self.name_action(name)),
-            Command::Open => return Ok(self.open()),
-            Command::Read(text) => return Ok(self.read(text)),
+            Command::Vocabulary(parts) => self.begin(heap, parts),
+            Command::Test(name) => Ok(self.name_test(name)),
+            Command::Action(name) => Ok(self.name_action(name)),
+            Command::Open => Ok(self.open()),
+            Command::Read(text) => Ok(self.read(text)),
         }
     }
 }

@@ -3,6 +3,11 @@
 
 #![tactic(auto)]
 
+ghost use Rattle.std.specs.Prelude.{Some};
+ghost use Rattle.refusals.specs.Shown.{layer_word, refusal_text};
+
+use std::fmt::{self, Display};
+
 // The layer that refuses.
 #[derive(Clone, Copy, PartialEq, Eq, Debug)]
 pub enum Layer {
@@ -15,10 +20,41 @@ pub enum Layer {
     Walk,
 }
 
+// A layer is told by its word.
+impl Display for Layer {
+    ghost output = { λ layer. Some (layer_word layer) };
+
+    fn fmt<W: fmt::Write>(&self, f: &mut fmt::Formatter<W>) -> fmt::Result {
+        f.write_str(match self {
+            Layer::Vocabulary => "vocabulary",
+            Layer::Names => "names",
+            Layer::Signs => "signs",
+            Layer::Rule => "rule",
+            Layer::Chart => "chart",
+            Layer::Book => "book",
+            Layer::Walk => "walk",
+        })
+    }
+}
+
 // A refusal with its number, which no other refusal has, and its place in what was given.
 #[derive(Clone, Copy, PartialEq, Eq, Debug)]
 pub struct Refusal {
     pub layer: Layer,
     pub number: u8,
     pub place: usize,
+}
+
+// A refusal is told by all three.
+impl Display for Refusal {
+    ghost output = { λ refusal. Some (refusal_text refusal) };
+
+    fn fmt<W: fmt::Write>(&self, f: &mut fmt::Formatter<W>) -> fmt::Result {
+        let Refusal {
+            layer,
+            number,
+            place,
+        } = *self;
+        write!(f, "refused, {layer} {number} at {place}")
+    }
 }

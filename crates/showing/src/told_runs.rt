@@ -17,8 +17,7 @@ fn put_test(out: &mut Vec<u8>, first: bool, name: &[u8]) -> Result<(), AllocErro
         return put(out, name);
     }
     put(out, b"&")?;
-    put(out, name)?;
-    Ok(())
+    put(out, name)
 }
 
 // A situation by the named tests that hold there.
@@ -47,7 +46,7 @@ fn put_situation(out: &mut Vec<u8>, sheet: &Sheet, words: bool, s: u8) -> Result
     if words {
         put_in_words(out, sheet, s)
     } else {
-        put_number(out, s as u64)
+        put_number(out, u64::from(s))
     }
 }
 
@@ -56,12 +55,12 @@ fn put_turns(out: &mut Vec<u8>, sheet: &Sheet, words: bool, run: &[u8]) -> Resul
     ensures { OnOk result (Adds (turns (sheet_of sheet.now) words true run.now) out.old.items out.new.items) }
 {
     let mut situation = true;
-    for i in 0..run.len() {
+    for b in run {
         put(out, b" ")?;
         if situation {
-            put_situation(out, sheet, words, run[i])?;
+            put_situation(out, sheet, words, *b)?;
         } else {
-            put(out, sheet.names().action_name(run[i]))?;
+            put(out, sheet.names().action_name(*b))?;
         }
         situation = !situation;
     }
@@ -72,12 +71,7 @@ fn put_turns(out: &mut Vec<u8>, sheet: &Sheet, words: bool, run: &[u8]) -> Resul
 pub fn put_run(out: &mut Vec<u8>, sheet: &Sheet, words: bool, run: &[u8]) -> Result<(), AllocError>
     ensures the_run_as_a_line { OnOk result (Adds (run_line (sheet_of sheet.now) words run.now) out.old.items out.new.items) }
 {
-    if words {
-        put(out, b"  in words")?;
-    } else {
-        put(out, b"  run")?;
-    }
+    put(out, if words { b"  in words" } else { b"  run" })?;
     put_turns(out, sheet, words, run)?;
-    put(out, b"\n")?;
-    Ok(())
+    put(out, b"\n")
 }

@@ -13,12 +13,8 @@ use words::{Words, number};
 fn situation(word: &[u8], situations: u8) -> Option<u8>
     ensures { result ≡ situation_of situations word.now }
 {
-    let s = number(word)?;
-    if s < situations as u64 {
-        Some(s as u8)
-    } else {
-        None
-    }
+    let s = u8::try_from(number(word)?).ok()?;
+    (s < situations).then_some(s)
 }
 
 // The action that a word names.

@@ -13,8 +13,7 @@ use words::push_decimal;
 pub fn put(out: &mut Vec<u8>, bytes: &[u8]) -> Result<(), AllocError>
     ensures { OnOk result (Adds bytes.now out.old.items out.new.items) }
 {
-    out.extend_from_slice(bytes)?;
-    Ok(())
+    out.extend_from_slice(bytes)
 }
 
 // What a value shows.
@@ -29,6 +28,5 @@ pub fn put_shown<D: Display + Drop>(out: &mut Vec<u8>, value: D) -> Result<(), A
 pub fn put_number(out: &mut Vec<u8>, n: u64) -> Result<(), AllocError>
     ensures { OnOk result (Adds (decimal n) out.old.items out.new.items) }
 {
-    push_decimal(out, n)?;
-    Ok(())
+    push_decimal(out, n)
 }
