@@ -23,7 +23,7 @@ ROWS = [
     ("4 conversion by `as`", r"\bas (u8|u16|u32|u64|usize)\b"),
     ("4 conversion by methods", r"\bfn (number|place|as_\w+|to_\w+|into_\w+)\("),
     ("4 printing by hand", r"\bfn (put\w*|push_decimal|layer_word)\b"),
-    ("6 arrays of a fixed size", r"\[[^\[\]]*; ?[A-Z_]*[A-Z0-9]+\]"),
+    ("6 arrays of a fixed size", r"\[[\w:']+; ?\w+\]"),
     ("6 lengths beside a buffer", r"^\s*(pub(\(crate\))? )?(used|len|count): (u8|usize)"),
     ("7 function pointers and dyn", r"\bdyn \b|: fn\("),
 ]
@@ -60,7 +60,7 @@ def main():
         places = []
         for path, text in files:
             for number, line in enumerate(text.split("\n"), 1):
-                if not line.strip().startswith("//") and "ghost use" not in line:
+                if not line.strip().startswith(("//", "ghost ", "requires ", "ensures ")):
                     places += [f"{path}:{number}: {line.strip()}"] * len(re.findall(pattern, line))
         print(f"{len(places):4}  {label}")
         if show:
@@ -82,10 +82,10 @@ def main():
         if show:
             for key, names in often.items():
                 print(f"        {' '.join(key)}: {' '.join(names)}")
-    answers = sum(len(re.findall(r"^(?:abbrev )?(?:pub )?[\w\-‿+.]+ (?:\w+ )*= ", p.read_text(), re.M))
+    answers = sum(len(re.findall(r"^(?:abbrev )?pub \S+ : goal\.", p.read_text(), re.M))
                   for p in (top / "crates").glob("*/proofs/**/Answers.antt"))
     lines = sum(len(p.read_text().split("\n")) - 1 for p in (top / "crates").glob("*/proofs/**/*.antt"))
-    print(f"{answers:4}  8 equations in proofs/**/Answers.antt")
+    print(f"{answers:4}  8 goals answered in proofs/**/Answers.antt")
     print(f"{lines:4}  8 lines in proofs/")
 
 

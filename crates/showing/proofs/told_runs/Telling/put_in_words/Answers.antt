@@ -2,12 +2,12 @@
 use Rattle.std.proofs.Common.{ℕ, ◌<◌, ◌≤◌, [], length, get_or, vec_items, sym, ap, ◌∙◌, subst}
 use Rattle.sheet.specs.Laid.{sheet_of}
 use Rattle.showing.proofs.Told.{none_put, test_passed, test_put, tests_put}
-use Rattle.showing.proofs.told_runs.put_in_words.Goals as goal
-use Rattle.showing.proofs.told_runs.put_in_words.Goals.{then-holds+in_ok-put_test, else-holds}
+use Rattle.showing.proofs.told_runs.Telling.put_in_words.Goals as goal
+use Rattle.showing.proofs.told_runs.Telling.put_in_words.Goals.{then-holds+in_ok-put_test, else-holds}
 
 pub loop-t-preserved : goal.loop-t-preserved
 loop-t-preserved c =
-    let laid = sheet_of c.args.sheet.now in
+    let laid = sheet_of c.args.self.now.sheet.now in
     let holds = λ (t : ℕ). laid.meaning.holds t c.args.s in
     let all = c.tests-t-end.ensures ∙ ap (λ n. length n.tests) c.names-names.ensures in
     let within = subst (λ n. c.loop-t.t < n) all c.loop-t-test.true in
@@ -24,7 +24,7 @@ loop-t-preserved c =
 
 pub returns-in_ok-put : goal.returns-in_ok-put
 returns-in_ok-put c =
-    let laid = sheet_of c.args.sheet.now in
+    let laid = sheet_of c.args.self.now.sheet.now in
     let all = c.tests-t-end.ensures ∙ ap (λ n. length n.tests) c.names-names.ensures in
     let end = subst (λ n. n ≤ c.loop-t.t) all c.loop-t-test.false in
     none_put _ _ (λ t. laid.meaning.holds t c.args.s) laid.names.tests c.loop-t.t c.loop-t.first _ (vec_items c.put.new.out) end c.if-first.true
@@ -32,7 +32,7 @@ returns-in_ok-put c =
 
 pub returns-else-first : goal.returns-else-first
 returns-else-first c =
-    let laid = sheet_of c.args.sheet.now in
+    let laid = sheet_of c.args.self.now.sheet.now in
     let all = c.tests-t-end.ensures ∙ ap (λ n. length n.tests) c.names-names.ensures in
     let end = subst (λ n. n ≤ c.loop-t.t) all c.loop-t-test.false in
     tests_put _ _ (λ t. laid.meaning.holds t c.args.s) laid.names.tests c.loop-t.t c.loop-t.first _ end c.if-first.false c.loop-t.invariant
