@@ -17,21 +17,21 @@ by_suc P m h (suc f) lt = h f (omega arith)
 
 module _ (levels : ℕ) (a b : Reader) where
   pub choice_by : (r : Result Grown RuleFault)
-      → ((f : ℕ) → signs_left (ahead_by a) * 4 + 3 ≤ f → grown_of r b ≡ shown_grown a.used a.nodes.now (bind_grown (chain_from f (means_of a.names.now) levels (ahead_by a) (machine_of a.machine)) (or_more is_choosing choice (choice_from f (means_of a.names.now) levels))))
+      → ((f : ℕ) → signs_left (ahead_by a) * 4 + 3 ≤ f → grown_of r b ≡ shown_grown a.machine.nodes a.nodes.now (bind_grown (chain_from f (means_of a.names.now) levels (ahead_by a) (machine_of a.machine)) (or_more is_choosing choice (choice_from f (means_of a.names.now) levels))))
       → ChoiceRead levels r a b
-  choice_by r h = by_suc (λ f. grown_of r b ≡ shown_grown a.used a.nodes.now (choice_from f (means_of a.names.now) levels (ahead_by a) (machine_of a.machine))) (signs_left (ahead_by a) * 4 + 3) h
+  choice_by r h = by_suc (λ f. grown_of r b ≡ shown_grown a.machine.nodes a.nodes.now (choice_from f (means_of a.names.now) levels (ahead_by a) (machine_of a.machine))) (signs_left (ahead_by a) * 4 + 3) h
 
   pub chain_by : (r : Result Grown RuleFault)
-      → ((f : ℕ) → signs_left (ahead_by a) * 4 + 2 ≤ f → grown_of r b ≡ shown_grown a.used a.nodes.now (bind_grown (step_from f (means_of a.names.now) levels (ahead_by a) (machine_of a.machine)) (or_more is_following chain (chain_from f (means_of a.names.now) levels))))
+      → ((f : ℕ) → signs_left (ahead_by a) * 4 + 2 ≤ f → grown_of r b ≡ shown_grown a.machine.nodes a.nodes.now (bind_grown (step_from f (means_of a.names.now) levels (ahead_by a) (machine_of a.machine)) (or_more is_following chain (chain_from f (means_of a.names.now) levels))))
       → ChainRead levels r a b
-  chain_by r h = by_suc (λ f. grown_of r b ≡ shown_grown a.used a.nodes.now (chain_from f (means_of a.names.now) levels (ahead_by a) (machine_of a.machine))) (signs_left (ahead_by a) * 4 + 2) h
+  chain_by r h = by_suc (λ f. grown_of r b ≡ shown_grown a.machine.nodes a.nodes.now (chain_from f (means_of a.names.now) levels (ahead_by a) (machine_of a.machine))) (signs_left (ahead_by a) * 4 + 2) h
 
   pub step_by : (r : Result Grown RuleFault)
-      → ((f : ℕ) → signs_left (ahead_by a) * 4 + 1 ≤ f → grown_of r b ≡ shown_grown a.used a.nodes.now (bind_built (unit_from f (means_of a.names.now) levels (ahead_by a) (machine_of a.machine)) (λ u. stars_from (means_of a.names.now) levels u.ahead u.term u.machine)))
+      → ((f : ℕ) → signs_left (ahead_by a) * 4 + 1 ≤ f → grown_of r b ≡ shown_grown a.machine.nodes a.nodes.now (bind_built (unit_from f (means_of a.names.now) levels (ahead_by a) (machine_of a.machine)) (λ u. stars_from (means_of a.names.now) levels u.ahead u.term u.machine)))
       → StepRead levels r a b
-  step_by r h = by_suc (λ f. grown_of r b ≡ shown_grown a.used a.nodes.now (step_from f (means_of a.names.now) levels (ahead_by a) (machine_of a.machine))) (signs_left (ahead_by a) * 4 + 1) h
+  step_by r h = by_suc (λ f. grown_of r b ≡ shown_grown a.machine.nodes a.nodes.now (step_from f (means_of a.names.now) levels (ahead_by a) (machine_of a.machine))) (signs_left (ahead_by a) * 4 + 1) h
 
   pub unit_by : (r : Result Built RuleFault)
-      → ((f : ℕ) → signs_left (ahead_by a) * 4 ≤ f → built_of r b ≡ shown_built a.used a.nodes.now (unit_from (suc f) (means_of a.names.now) levels (ahead_by a) (machine_of a.machine)))
+      → ((f : ℕ) → signs_left (ahead_by a) * 4 ≤ f → built_of r b ≡ shown_built a.machine.nodes a.nodes.now (unit_from (suc f) (means_of a.names.now) levels (ahead_by a) (machine_of a.machine)))
       → UnitRead levels r a b
-  unit_by r h = by_suc (λ f. built_of r b ≡ shown_built a.used a.nodes.now (unit_from f (means_of a.names.now) levels (ahead_by a) (machine_of a.machine))) (signs_left (ahead_by a) * 4) h
+  unit_by r h = by_suc (λ f. built_of r b ≡ shown_built a.machine.nodes a.nodes.now (unit_from f (means_of a.names.now) levels (ahead_by a) (machine_of a.machine))) (signs_left (ahead_by a) * 4) h

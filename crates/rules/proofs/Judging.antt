@@ -8,11 +8,9 @@ use Rattle.sheet.specs.declared.named.Named.TheVariants.{Test, Action}
 use Rattle.grammar.specs.Reading.{Ahead, Machine, Pulled, Wants, end_fits, faulty, fits, following', is_bracket, judge, judged, opens, over, pull, sign, signs_left, take, take_name, wanting}
 use Rattle.grammar.specs.declared.fault.RuleFault.{RuleFault}
 use Rattle.grammar.specs.declared.fault.RuleFault.TheVariants.{TooMany, Unfit, TooDeep}
-use Rattle.rules.specs.Machines.{end_outcome, outcome}
-use Rattle.rules.specs.Readers.{LooksUp, Moved, Moves, Standing, bracket_in, close_in, count_in, level_in, named_by, pulled_of, sign_in}
+use Rattle.rules.specs.Machines.{outcome}
+use Rattle.rules.specs.Readers.{Moved, Standing, bracket_in, close_in, count_in, level_in, named_by, sign_in}
 use Rattle.rules.specs.declared.machine.Machine as code
-use Rattle.rules.specs.declared.reader.Pulled as code-pulled
-use Rattle.rules.specs.declared.reader.Reader.{Reader}
 
 pub ok_same : {X : Type 0} (x y : X) → ◌≡◌ {A = Result X RuleFault} (Ok x) (Ok y) → x ≡ y
 ok_same x y e = cc
@@ -107,29 +105,3 @@ judge_by_name means levels (choosing place) a = refl
 pub sign_judged : (means : List ℕ → Option Named) (levels : ℕ) (m : Mark) (a : Machine) (o : Option Named) (r : Result (Unit {0}) RuleFault) (behind : code.Machine)
     → o ≡ named_by means m → outcome r behind ≡ judge (λ _. o) levels m a → judge means levels m a ≡ outcome r behind
 sign_judged means levels m a o r behind n j = sym (judge_by_name means levels m a) ∙ ap (λ o. judge (λ _. o) levels m a) (sym n) ∙ sym j
-
--- the end, where it can come and where not
-pub end_granted : (place : ℕ) (a : Machine) (means : List ℕ → Option Named) (levels : ℕ) → end_outcome place a ≡ Ok tt → pull means levels (over place) a ≡ Ok (record { mark = None; ahead = over place; machine = a })
-end_granted place a means levels e = go (end_fits a) (record { mark = None; ahead = over place; machine = a }) e
-  where
-    go : (b : Bool) (p : Pulled) → cond {A = Result (Unit {0}) RuleFault} b (Ok tt) (Err (Unfit place)) ≡ Ok tt → cond {A = Result Pulled RuleFault} b (Ok p) (Err (Unfit place)) ≡ Ok p
-    go true p e = refl
-    go false p e = let z : ◌≡◌ {A = ℕ} 0 1 = cc in absurd (omega arith)
-
-pub end_refused : (place : ℕ) (a : Machine) (means : List ℕ → Option Named) (levels : ℕ) (fault : RuleFault) → end_outcome place a ≡ Err fault → pull means levels (over place) a ≡ Err fault
-end_refused place a means levels fault e = go (end_fits a) (record { mark = None; ahead = over place; machine = a }) e
-  where
-    go : (b : Bool) (p : Pulled) → cond {A = Result (Unit {0}) RuleFault} b (Ok tt) (Err (Unfit place)) ≡ Err fault → cond {A = Result Pulled RuleFault} b (Ok p) (Err (Unfit place)) ≡ Err fault
-    go true p e = let z : ◌≡◌ {A = ℕ} 0 1 = cc in absurd (omega arith)
-    go false p e = cc
-
--- a pull that is refused
-module _ (r : Result code-pulled.Pulled RuleFault) (fault : RuleFault) (e : r ≡ Err fault) where
-  pub pulled_err : (reader : Reader) (d : Result Pulled RuleFault) → d ≡ Err fault → pulled_of r reader ≡ d
-  pulled_err reader d h = rw e (sym h)
-
-  pub looks_err : (means : List ℕ → Option Named) → LooksUp means r
-  looks_err means = rw e tt
-
-  pub moves_err : (levels : ℕ) (a b : Reader) → Moves levels r a b
-  moves_err levels a b = rw e tt

@@ -2,7 +2,7 @@
 pub mod Peeling
 pub mod Judging
 pub mod Shapes
-pub mod Moving
+pub mod Refused
 pub mod Stars
 pub mod Fuel
 pub mod Joins

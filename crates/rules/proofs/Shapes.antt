@@ -6,12 +6,11 @@ use Rattle.grammar.specs.Reading.{Ahead, Built, Grown, Machine, bind_built, nega
 use Rattle.kat.specs.Terms.{Term, act, chain, choice, is_test, size, skip, star, stop, test}
 use Rattle.kat.specs.Terms as term
 use Rattle.grammar.specs.declared.fault.RuleFault.{RuleFault}
-use Rattle.rules.specs.Builders.{OneMore, Shape, shape_of, shown_built, shown_grown}
+use Rattle.rules.specs.Builders.{Shape, shape_of, shown_built, shown_grown}
 use Rattle.rules.specs.Nodes.{flat, root_at}
-use Rattle.rules.specs.Readers.{Standing, standing, with_node}
+use Rattle.rules.specs.Readers.{with_node}
 use Rattle.rules.specs.declared.node.Node.{Node}
 use Rattle.rules.specs.declared.node.Node.TheVariants.{Not}
-use Rattle.rules.specs.declared.reader.Reader.{Reader}
 use Rattle.rules.proofs.Judging.{ok_same}
 
 -- every term has a node
@@ -88,11 +87,3 @@ negated used nodes place d s t e = go (got_built used nodes d s e)
 
     go : (b : Built) × (d ≡ Ok b) × (s ≡ shape_of used nodes b.term None b.ahead b.machine) → Ok (wrapped Not true s) ≡ shown_built used nodes (bind_built d (negated_unit place))
     go (b, is, same) = rw (is, same) (at b (sym (ap (λ s. s.test) same) ∙ t))
-
--- the root and the standing that the code has
-pub with_root : (root root' : ℕ) (t : Bool) (next : Option Mark) (a b : Standing) → root ≡ root' → a ≡ b
-    → ◌≡◌ {A = Result Shape RuleFault} (Ok (record { root = root; test = t; next = next; then = a })) (Ok (record { root = root'; test = t; next = next; then = b }))
-with_root root root' t next a b p q = cc
-
-pub one_more : (a b : Reader) (node : Node) → standing b ≡ with_node node (standing a) → OneMore a b
-one_more a b node e = record { ahead = ap (λ s. s.ahead) e; machine = ap (λ s. s.machine) e; used = ap (λ s. s.used) e }

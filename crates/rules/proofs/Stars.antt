@@ -1,34 +1,24 @@
 -- A unit and the `*` behind it, sign by sign, on values alone.
 use Rattle.std.proofs.Common.{◌≡◌, ℕ, Bool, true, false, cond, List, None, Ok, Err, Option, Result, sym, refl, ap, ◌∙◌}
+use Rattle.signs.specs.Signs.{Mark}
 use Rattle.sheet.specs.declared.named.Named.{Named}
 use Rattle.grammar.specs.Reading.{Ahead, Built, Grown, Machine, Pulled, bind_built, bind_pulled, end_fits, faulty, grown, is_repeating, judge, judged, over, pull, sign, stars_at, stars_from}
 use Rattle.kat.specs.Terms.{Term, star}
 use Rattle.grammar.specs.declared.fault.RuleFault.{RuleFault}
 use Rattle.grammar.specs.declared.fault.RuleFault.TheVariants.{Unfit}
-use Rattle.rules.specs.Builders.{Shape, shape_of, shown_built, shown_grown}
-use Rattle.rules.specs.Readers.{Standing, with_node}
+use Rattle.rules.specs.Builders.{Shape, leaf_shape, shape_of, shown_built, shown_grown}
+use Rattle.rules.specs.Readers.{Standing}
 use Rattle.rules.specs.declared.node.Node.{Node}
 use Rattle.rules.specs.declared.node.Node.TheVariants.{Star}
-use Rattle.rules.proofs.Shapes.{got_built, wrapped_is}
+use Rattle.rules.proofs.Shapes.{wrapped_is}
 
--- the part with the sign that was pulled behind it
-abbrev pub followed : Shape → Pulled → Shape
-followed s p = record { root = s.root; test = s.test; next = p.mark; then = record { ahead = p.ahead; machine = p.machine; used = s.then.used; nodes = s.then.nodes } }
+-- the part with the sign that was pulled behind it, where the reader then stands
+abbrev pub followed : Shape → Option Mark → Standing → Shape
+followed s mark mid = record { root = s.root; test = s.test; next = mark; then = mid }
 
 -- the same with a `*`
-abbrev pub repeated : Shape → Pulled → Shape
-repeated s p = record { root = s.then.used; test = false; next = None; then = with_node (Star s.root) (record { ahead = p.ahead; machine = p.machine; used = s.then.used; nodes = s.then.nodes }) }
-
--- as the code has them
-pub repeated_is : (t : Shape) (p : Pulled) (root : ℕ) (mid behind : Standing) → root ≡ mid.used → behind ≡ with_node (Star t.root) mid → mid.ahead ≡ p.ahead → mid.machine ≡ p.machine → mid.used ≡ t.then.used → mid.nodes ≡ t.then.nodes
-    → repeated t p ≡ record { root = root; test = false; next = None; then = behind }
-repeated_is t p root mid behind a b c d e f = cc
-
-pub followed_is : (t : Shape) (p : Pulled) (behind : Standing) → behind.ahead ≡ p.ahead → behind.machine ≡ p.machine → behind.used ≡ t.then.used → behind.nodes ≡ t.then.nodes
-    → ◌≡◌ {A = Result Shape RuleFault} (Ok (record { root = t.root; test = t.test; next = p.mark; then = behind })) (Ok (followed t p))
-followed_is t p behind a b c d =
-    let e : ◌≡◌ {A = Standing} (record { ahead = behind.ahead; machine = behind.machine; used = behind.used; nodes = behind.nodes }) (record { ahead = p.ahead; machine = p.machine; used = t.then.used; nodes = t.then.nodes }) = cc in
-    ap (λ b. Ok (record { root = t.root; test = t.test; next = p.mark; then = b })) e
+abbrev pub repeated : Shape → Standing → Shape
+repeated s mid = leaf_shape (Star s.root) false mid
 
 module _ (means : List ℕ → Option Named) (levels : ℕ) where
   -- what follows a sign that was pulled behind a unit
@@ -56,13 +46,6 @@ module _ (means : List ℕ → Option Named) (levels : ℕ) where
     pub same : (used : ℕ) (nodes : List Node) (d : Result Built RuleFault) → Ok s ≡ shown_built used nodes d
         → (b : Built) × (Ok t ≡ shown_built used nodes (Ok b)) × (starred b ≡ bind_built d starred)
 
-  pub turned_none : (s : Shape) → Turned s s
-  turned_none s = record { same = λ used nodes d e. go used nodes d e (got_built used nodes d s e) }
-    where
-      go : (used : ℕ) (nodes : List Node) (d : Result Built RuleFault) → Ok s ≡ shown_built used nodes d → (b : Built) × (d ≡ Ok b) × (s ≡ shape_of used nodes b.term None b.ahead b.machine)
-          → (b : Built) × (Ok s ≡ shown_built used nodes (Ok b)) × (starred b ≡ bind_built d starred)
-      go used nodes d e (b, is, same) = (b, ap Ok same, sym (ap (λ d. bind_built d starred) is))
-
   -- the step that is read from a part whose next sign was pulled
   pulled_step : (used : ℕ) (nodes : List Node) (b : Built) (t : Shape) (r : Result Pulled RuleFault) → Ok t ≡ shown_built used nodes (Ok b) → r ≡ pull means levels t.then.ahead t.then.machine
       → starred b ≡ bind_pulled r (behind_unit b.term)
@@ -78,23 +61,38 @@ module _ (means : List ℕ → Option Named) (levels : ℕ) where
       go : (b : Built) × (Ok t ≡ shown_built used nodes (Ok b)) × (starred b ≡ bind_built d starred) → Err fault ≡ shown_grown used nodes (bind_built d starred)
       go (b, is, eq) = ap (shown_grown used nodes) (sym (pulled_step used nodes b t (Err fault) is h) ∙ eq)
 
-  pub turned_end : (s t : Shape) (p : Pulled) → Turned s t → Ok p ≡ pull means levels t.then.ahead t.then.machine → is_repeating p.mark ≡ false
-      → (used : ℕ) (nodes : List Node) (d : Result Built RuleFault) → Ok s ≡ shown_built used nodes d → Ok (followed t p) ≡ shown_grown used nodes (bind_built d starred)
-  turned_end s t p turned h other used nodes d e = go (turned.same used nodes d e)
-    where
-      go : (b : Built) × (Ok t ≡ shown_built used nodes (Ok b)) × (starred b ≡ bind_built d starred) → Ok (followed t p) ≡ shown_grown used nodes (bind_built d starred)
-      go (b, is, eq) =
-          let same : t ≡ shape_of used nodes b.term None b.ahead b.machine = cc in
-          let ends : starred b ≡ Ok (grown b.term p.mark p.ahead p.machine) = pulled_step used nodes b t (Ok p) is h ∙ rw other in
-          ap (λ t. Ok (followed t p)) same ∙ ap (shown_grown used nodes) (sym ends ∙ eq)
+  -- a pull puts down no node
+  module _ (s t : Shape) (mark : Option Mark) (mid : Standing) (used : mid.used ≡ t.then.used) (nodes : mid.nodes ≡ t.then.nodes) (turned : Turned s t)
+      (pulled : Ok (record { mark = mark; ahead = mid.ahead; machine = mid.machine }) ≡ pull means levels t.then.ahead t.then.machine) where
+    stays : mid ≡ record { ahead = mid.ahead; machine = mid.machine; used = t.then.used; nodes = t.then.nodes }
+    stays =
+        let same : ◌≡◌ {A = Standing} (record { ahead = mid.ahead; machine = mid.machine; used = mid.used; nodes = mid.nodes }) (record { ahead = mid.ahead; machine = mid.machine; used = t.then.used; nodes = t.then.nodes }) = cc in
+        same
 
-  pub turned_more : (s t : Shape) (p : Pulled) → Turned s t → Ok p ≡ pull means levels t.then.ahead t.then.machine → is_repeating p.mark ≡ true → Turned s (repeated t p)
-  turned_more s t p turned h more = record { same = λ used nodes d e. go used nodes d (turned.same used nodes d e) }
-    where
-      go : (used : ℕ) (nodes : List Node) (d : Result Built RuleFault) → (b : Built) × (Ok t ≡ shown_built used nodes (Ok b)) × (starred b ≡ bind_built d starred)
-          → (b : Built) × (Ok (repeated t p) ≡ shown_built used nodes (Ok b)) × (starred b ≡ bind_built d starred)
-      go used nodes d (b, is, eq) =
-          let same : t ≡ shape_of used nodes b.term None b.ahead b.machine = cc in
-          let on : starred b ≡ stars_from means levels p.ahead (star b.term) p.machine = pulled_step used nodes b t (Ok p) is h ∙ rw more in
-          let laid = wrapped_is used nodes b.term (star b.term) Star None p.ahead p.machine refl refl in
-          (record { term = star b.term; ahead = p.ahead; machine = p.machine }, ap (λ t. Ok (repeated t p)) same ∙ ap Ok laid, sym on ∙ eq)
+    pub turned_end : is_repeating mark ≡ false
+        → (used : ℕ) (nodes : List Node) (d : Result Built RuleFault) → Ok s ≡ shown_built used nodes d → Ok (followed t mark mid) ≡ shown_grown used nodes (bind_built d starred)
+    turned_end other used nodes d e = go (turned.same used nodes d e)
+      where
+        go : (b : Built) × (Ok t ≡ shown_built used nodes (Ok b)) × (starred b ≡ bind_built d starred) → Ok (followed t mark mid) ≡ shown_grown used nodes (bind_built d starred)
+        go (b, is, eq) =
+            let same : t ≡ shape_of used nodes b.term None b.ahead b.machine = cc in
+            let ends : starred b ≡ Ok (grown b.term mark mid.ahead mid.machine) = pulled_step used nodes b t _ is pulled ∙ rw other in
+            ap (λ mid. Ok (followed t mark mid)) stays
+            ∙ ap (λ t. Ok (followed t mark (record { ahead = mid.ahead; machine = mid.machine; used = t.then.used; nodes = t.then.nodes }))) same
+            ∙ ap (shown_grown used nodes) (sym ends ∙ eq)
+
+    pub turned_more : is_repeating mark ≡ true → Turned s (repeated t mid)
+    turned_more more = record { same = λ used nodes d e. go used nodes d (turned.same used nodes d e) }
+      where
+        go : (used : ℕ) (nodes : List Node) (d : Result Built RuleFault) → (b : Built) × (Ok t ≡ shown_built used nodes (Ok b)) × (starred b ≡ bind_built d starred)
+            → (b : Built) × (Ok (repeated t mid) ≡ shown_built used nodes (Ok b)) × (starred b ≡ bind_built d starred)
+        go used nodes d (b, is, eq) =
+            let same : t ≡ shape_of used nodes b.term None b.ahead b.machine = cc in
+            let on : starred b ≡ stars_from means levels mid.ahead (star b.term) mid.machine = pulled_step used nodes b t _ is pulled ∙ rw more in
+            let laid = wrapped_is used nodes b.term (star b.term) Star None mid.ahead mid.machine refl refl in (
+              record { term = star b.term; ahead = mid.ahead; machine = mid.machine },
+              ap (λ mid. Ok (repeated t mid)) stays
+                  ∙ ap (λ t. Ok (repeated t (record { ahead = mid.ahead; machine = mid.machine; used = t.then.used; nodes = t.then.nodes }))) same
+                  ∙ ap Ok laid,
+              sym on ∙ eq,
+            )

@@ -6,7 +6,7 @@ use Rattle.signs.specs.Reader.{place_in, text_of}
 use Rattle.signs.specs.declared.fault.SignFault.TheVariants.{TextTooLong}
 use Rattle.signs.specs.declared.reader.SignReader.{SignReader}
 use Rattle.sheet.specs.declared.named.Named.{Named}
-use Rattle.grammar.specs.Reading.{Grown, bind_grown, choice_from, fresh, signs_left, term_of}
+use Rattle.grammar.specs.Reading.{Grown, Machine, bind_grown, choice_from, fresh, signs_left, term_of}
 use Rattle.kat.specs.Terms.{Term, size}
 use Rattle.grammar.specs.declared.fault.RuleFault.{RuleFault}
 use Rattle.grammar.specs.declared.fault.RuleFault.TheVariants.{Sign, NoRoom}
@@ -33,6 +33,14 @@ begun_ahead text signs t p =
 -- the choice that a text is
 abbrev pub whole_of : (List ℕ → Option Named) → List ℕ → Result Grown RuleFault
 whole_of means text = choice_from (signs_left (ahead_in text) * 4 + 4) means 32 (ahead_in text) fresh
+
+-- a builder that begins at the first byte, with the fuel that the grammar gives, reads the choice that the text is
+pub begun_choice : (means : List ℕ → Option Named) (text : List ℕ) (nodes : List Node) (signs : SignReader) (used : ℕ) (machine : Machine) {x : Result Shape RuleFault} → text_of signs ≡ text → place_in signs ≡ 0 → machine ≡ fresh → used ≡ 0
+    → ((fuel : ℕ) → signs_left (ahead_of (length text) signs) * 4 + 3 < fuel → x ≡ shown_grown used nodes (choice_from fuel means 32 (ahead_of (length text) signs) machine))
+    → x ≡ shown_grown 0 nodes (whole_of means text)
+begun_choice means text nodes signs used machine t p m u reads =
+    let ahead = begun_ahead text signs t p in
+    rw (← ahead, ← m, ← u) (reads (signs_left (ahead_of (length text) signs) * 4 + 4) (omega arith))
 
 module _ (means : List ℕ → Option Named) (text : List ℕ) (nodes : List Node) (few : length text ≤ 4096) where
   reads : read_text means text ≡ bind_grown (whole_of means text) term_of

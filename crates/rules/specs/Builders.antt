@@ -1,5 +1,5 @@
 -- What the builders give, seen by values, against the grammar's reading.
-use Rattle.std.specs.Prelude.{◌≡◌, ℕ, ◌+◌, ◌*◌, ◌<◌, ◌≤◌, Bool, true, ◌&&◌, List, None, Ok, Err, Option, Result}
+use Rattle.std.specs.Prelude.{◌≡◌, ℕ, ◌+◌, ◌*◌, ◌<◌, ◌≤◌, Bool, ◌&&◌, List, None, Ok, Err, Option, Result}
 use Rattle.std.proofs.lemmas.List.Edits.{sets}
 use Rattle.signs.specs.Signs.{Mark}
 use Rattle.sheet.specs.declared.named.Named.{Named}
@@ -23,20 +23,23 @@ pub record Shape : Type 0 where
   pub then : Standing
 
 -- What the code gave, seen so.
+abbrev pub part_at : Built → Reader → Shape
+part_at unit reader = record { root = unit.root; test = unit.is_test; next = None; then = standing reader }
+
 abbrev pub built_of : Result Built RuleFault → Reader → Result Shape RuleFault
-built_of (Ok unit) reader = Ok (record { root = unit.root; test = unit.is_test; next = None; then = standing reader })
+built_of (Ok unit) reader = Ok (part_at unit reader)
 built_of (Err fault) reader = Err fault
 
 abbrev pub shape_at : Grown → Reader → Shape
-shape_at part reader = record { root = part.root; test = part.is_test; next = maybe_mark part.next; then = standing reader }
+shape_at grown reader = record { root = grown.part.root; test = grown.part.is_test; next = maybe_mark grown.next; then = standing reader }
 
 abbrev pub grown_of : Result Grown RuleFault → Reader → Result Shape RuleFault
 grown_of (Ok part) reader = Ok (shape_at part reader)
 grown_of (Err fault) reader = Err fault
 
--- A word by its node, where the reader stood at `s`.
-abbrev pub leaf_shape : Node → Standing → Shape
-leaf_shape node s = record { root = s.used; test = true; next = None; then = with_node node s }
+-- A part by its root, where the reader stood at `s`.
+abbrev pub leaf_shape : Node → Bool → Standing → Shape
+leaf_shape node test s = record { root = s.used; test = test; next = None; then = with_node node s }
 
 -- Two parts joined by a node behind the second.
 abbrev pub joined_shape : Node → Shape → Shape → Shape
@@ -61,16 +64,11 @@ abbrev pub shown_grown : ℕ → List Node → Result reading.Grown RuleFault �
 shown_grown used nodes (Ok g) = Ok (shape_of used nodes g.term g.next g.ahead g.machine)
 shown_grown used nodes (Err fault) = Err fault
 
--- A builder may begin: no more nodes than signs counted, and all levels still within the bound.
-pub record Ready (levels : ℕ) (a : Reader) : Type 0 where
-  pub counted : a.used ≤ a.machine.signs
-  pub shallow : a.machine.brackets + levels ≤ 32
-
 -- How a part moves the reader on: it takes so many signs at least from what lies ahead, has a node for each sign that it
 -- counts but for the next one behind it, and leaves as many brackets open but for that.
 pub record Further (signs : ℕ) (next : Option Mark) (a b : Reader) : Type 0 where
   pub left : signs_left (ahead_by b) + signs ≤ signs_left (ahead_by a)
-  pub counted : a.machine.signs + b.used + count_in next ≤ a.used + b.machine.signs
+  pub counted : a.machine.signs + b.machine.nodes + count_in next ≤ a.machine.nodes + b.machine.signs
   pub brackets : b.machine.brackets + close_in next ≤ a.machine.brackets + bracket_in next
 
 abbrev pub OnwardUnit : Result Built RuleFault → Reader → Reader → Type 0
@@ -89,7 +87,7 @@ NotBack (Err fault) a b = Unit {0}
 pub record OneMore (a b : Reader) : Type 0 where
   pub ahead : ahead_by b ≡ ahead_by a
   pub machine : machine_of b.machine ≡ machine_of a.machine
-  pub used : b.used ≡ a.used + 1
+  pub used : b.machine.nodes ≡ a.machine.nodes + 1
 
 abbrev pub Adds : Result Built RuleFault → Reader → Reader → Type 0
 Adds (Ok unit) a b = OneMore a b
@@ -97,7 +95,7 @@ Adds (Err fault) a b = Unit {0}
 
 -- The unit that a name is.
 abbrev pub NamedRead : Option Named → ℕ → Result Built RuleFault → Reader → Reader → Type 0
-NamedRead named place r a b = built_of r b ≡ shown_built a.used a.nodes.now (named_unit named place (ahead_by a) (machine_of a.machine))
+NamedRead named place r a b = built_of r b ≡ shown_built a.machine.nodes a.nodes.now (named_unit named place (ahead_by a) (machine_of a.machine))
 
 -- The negation of a unit: whatever reading the unit came from, its negation comes from that.
 abbrev pub NegatedRead : Built → ℕ → Result Built RuleFault → Reader → Reader → Type 0
@@ -114,16 +112,16 @@ StarsRead unit levels r a b =
 -- The four builders, with fuel enough for the signs ahead.
 abbrev pub UnitRead : ℕ → Result Built RuleFault → Reader → Reader → Type 0
 UnitRead levels r a b =
-    (fuel : ℕ) → signs_left (ahead_by a) * 4 < fuel → built_of r b ≡ shown_built a.used a.nodes.now (unit_from fuel (means_of a.names.now) levels (ahead_by a) (machine_of a.machine))
+    (fuel : ℕ) → signs_left (ahead_by a) * 4 < fuel → built_of r b ≡ shown_built a.machine.nodes a.nodes.now (unit_from fuel (means_of a.names.now) levels (ahead_by a) (machine_of a.machine))
 
 abbrev pub StepRead : ℕ → Result Grown RuleFault → Reader → Reader → Type 0
 StepRead levels r a b =
-    (fuel : ℕ) → signs_left (ahead_by a) * 4 + 1 < fuel → grown_of r b ≡ shown_grown a.used a.nodes.now (step_from fuel (means_of a.names.now) levels (ahead_by a) (machine_of a.machine))
+    (fuel : ℕ) → signs_left (ahead_by a) * 4 + 1 < fuel → grown_of r b ≡ shown_grown a.machine.nodes a.nodes.now (step_from fuel (means_of a.names.now) levels (ahead_by a) (machine_of a.machine))
 
 abbrev pub ChainRead : ℕ → Result Grown RuleFault → Reader → Reader → Type 0
 ChainRead levels r a b =
-    (fuel : ℕ) → signs_left (ahead_by a) * 4 + 2 < fuel → grown_of r b ≡ shown_grown a.used a.nodes.now (chain_from fuel (means_of a.names.now) levels (ahead_by a) (machine_of a.machine))
+    (fuel : ℕ) → signs_left (ahead_by a) * 4 + 2 < fuel → grown_of r b ≡ shown_grown a.machine.nodes a.nodes.now (chain_from fuel (means_of a.names.now) levels (ahead_by a) (machine_of a.machine))
 
 abbrev pub ChoiceRead : ℕ → Result Grown RuleFault → Reader → Reader → Type 0
 ChoiceRead levels r a b =
-    (fuel : ℕ) → signs_left (ahead_by a) * 4 + 3 < fuel → grown_of r b ≡ shown_grown a.used a.nodes.now (choice_from fuel (means_of a.names.now) levels (ahead_by a) (machine_of a.machine))
+    (fuel : ℕ) → signs_left (ahead_by a) * 4 + 3 < fuel → grown_of r b ≡ shown_grown a.machine.nodes a.nodes.now (choice_from fuel (means_of a.names.now) levels (ahead_by a) (machine_of a.machine))

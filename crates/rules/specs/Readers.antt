@@ -14,7 +14,7 @@ use Rattle.grammar.specs.declared.fault.RuleFault.{RuleFault}
 use Rattle.rules.specs.Aheads.{ahead_of}
 use Rattle.rules.specs.Machines.{machine_of}
 use Rattle.rules.specs.declared.node.Node.{Node}
-use Rattle.rules.specs.declared.reader.Pulled.{Pulled}
+use Rattle.rules.specs.declared.reader.Judged.{Judged}
 use Rattle.rules.specs.declared.reader.Reader.{Reader}
 
 abbrev pub means_of : Names → List ℕ → Option Named
@@ -37,6 +37,11 @@ abbrev pub maybe_mark : Option Sign → Option Mark
 maybe_mark None = None
 maybe_mark (Some sign) = Some (mark_of sign)
 
+-- The same of a sign that was judged.
+abbrev pub judged_mark : Option Judged → Option Mark
+judged_mark None = None
+judged_mark (Some judged) = Some (mark_of judged.sign)
+
 -- What lies ahead of a reader.
 abbrev pub ahead_by : Reader → Ahead
 ahead_by reader = ahead_of reader.end reader.signs
@@ -49,7 +54,7 @@ pub record Standing : Type 0 where
   pub nodes : List Node
 
 abbrev pub standing : Reader → Standing
-standing reader = record { ahead = ahead_by reader; machine = machine_of reader.machine; used = reader.used; nodes = reader.nodes.now }
+standing reader = record { ahead = ahead_by reader; machine = machine_of reader.machine; used = reader.machine.nodes; nodes = reader.nodes.now }
 
 -- The same with one more node, which is only counted where there is no room for it.
 abbrev pub with_node : Node → Standing → Standing
@@ -87,27 +92,25 @@ pub record Moved (levels : ℕ) (next : Option Mark) (a b : Standing) : Type 0 w
   pub brackets : b.machine.brackets + close_in next ≤ a.machine.brackets + bracket_in next
   pub level : level_in next ≤ levels
 
--- What no call changes.
+-- What no call changes: the nodes that were lent, what names name, and the room.
 pub record Stays (a b : Reader) : Type 0 where
+  pub lent : b.nodes.ghost_name ≡ a.nodes.ghost_name
   pub names : a.names.now ≡ b.names.now
   pub room : length a.nodes.now ≡ length b.nodes.now
 
 -- What a pull gave, with what lies ahead of the reader then and its state.
-abbrev pub pulled_of : Result Pulled RuleFault → Reader → Result reading.Pulled RuleFault
-pulled_of (Ok pulled) reader = Ok (record { mark = maybe_mark pulled.sign; ahead = ahead_by reader; machine = machine_of reader.machine })
+abbrev pub pulled_of : Result (Option Judged) RuleFault → Reader → Result reading.Pulled RuleFault
+pulled_of (Ok pulled) reader = Ok (record { mark = judged_mark pulled; ahead = ahead_by reader; machine = machine_of reader.machine })
 pulled_of (Err fault) reader = Err fault
 
 -- What the sign names comes with it.
-abbrev pub named_by_maybe : (List ℕ → Option Named) → Option Mark → Option Named
-named_by_maybe means None = None
-named_by_maybe means (Some m) = named_by means m
-
-abbrev pub LooksUp : (List ℕ → Option Named) → Result Pulled RuleFault → Type 0
-LooksUp means (Ok pulled) = pulled.named ≡ named_by_maybe means (maybe_mark pulled.sign)
+abbrev pub LooksUp : (List ℕ → Option Named) → Result (Option Judged) RuleFault → Type 0
+LooksUp means (Ok None) = Unit {0}
+LooksUp means (Ok (Some judged)) = judged.named ≡ named_by means (mark_of judged.sign)
 LooksUp means (Err fault) = Unit {0}
 
 -- A pull takes the sign from what lies ahead, counts it unless it is a bracket, opens and closes brackets, and opens
 -- a level only where one is left.
-abbrev pub Moves : ℕ → Result Pulled RuleFault → Reader → Reader → Type 0
-Moves levels (Ok pulled) a b = Moved levels (maybe_mark pulled.sign) (standing a) (standing b)
+abbrev pub Moves : ℕ → Result (Option Judged) RuleFault → Reader → Reader → Type 0
+Moves levels (Ok pulled) a b = Moved levels (judged_mark pulled) (standing a) (standing b)
 Moves levels (Err fault) a b = Unit {0}

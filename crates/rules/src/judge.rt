@@ -25,13 +25,15 @@ fn is_bracket(sign: Sign<'_>) -> bool
 impl Machine {
     // As a text begins.
     pub(crate) fn new() -> Machine
-        ensures { machine_of result ≡ fresh }
+        ensures as_defined { machine_of result ≡ fresh }
+        ensures no_node { result.nodes ≡ 0 }
     {
         Machine {
             wants: Wants::Wanting,
             brackets: 0,
             signs: 0,
             actions: 0,
+            nodes: 0,
         }
     }
 
@@ -40,6 +42,7 @@ impl Machine {
         requires { self.old.signs < 255 }
         ensures as_defined { outcome result self.new ≡ take_name named place (machine_of self.old) }
         ensures kept { KeptIfRefused result self.old self.new }
+        ensures nodes_stay { self.new.nodes ≡ self.old.nodes }
     {
         match named {
             None => return Err(RuleFault::UnknownName(place)),
@@ -67,6 +70,7 @@ impl Machine {
         requires { self.old.brackets + levels ≤ 32 }
         ensures as_defined { outcome result self.new ≡ judge (λ _. named) levels (mark_of sign.entry) (machine_of self.old) }
         ensures kept { KeptIfRefused result self.old self.new }
+        ensures nodes_stay { self.new.nodes ≡ self.old.nodes }
     {
         if !is_bracket(sign) && self.signs == SIGNS {
             return Err(RuleFault::TooMany(sign.place()));

@@ -12,9 +12,7 @@ pub(crate) struct Built {
 // A step, chain or choice that is complete.
 #[derive(Clone, Copy)]
 pub(crate) struct Grown<'t> {
-    // The place of its root among the nodes.
-    pub(crate) root: u8,
-    pub(crate) is_test: bool,
+    pub(crate) part: Built,
     // The sign behind it, which has been judged; none at the end.
     pub(crate) next: Option<Sign<'t>>,
 }

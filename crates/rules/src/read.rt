@@ -18,6 +18,7 @@ const LEVELS: u8 = 32;
 
 // Reads the text of a rule. The rule is laid out from the first node on, and the nodes behind it stay as they were; a text
 // that is refused leaves all nodes empty. Only a text that is otherwise granted is refused for want of nodes.
+#[tactic(auto, using(crate::proofs::GrantedTexts::granted_exactly, crate::proofs::Decoding::laid_out_decodes))]
 pub fn read_rule<'t>(
     text: &'t [u8],
     names: &'t Names,
@@ -28,6 +29,7 @@ pub fn read_rule<'t>(
     ensures granted_exactly_for_rules { GrantedExactlyForRules (means_of names.now) text.now }
     ensures nodes_give_the_term_back { LaidOutDecodes }
 {
+    // Wrapped by hand, since the reader that clears the nodes on its way out does not exist yet.
     let signs = match SignReader::new(text) {
         Ok(signs) => signs,
         Err(fault) => {
@@ -40,15 +42,14 @@ pub fn read_rule<'t>(
         signs,
         names,
         end: text.len(),
-        used: 0,
         machine: Machine::new(),
     };
     reader.choice(LEVELS)?;
-    if reader.used > reader.nodes.len() {
+    if usize::from(reader.machine.nodes) > reader.nodes.len() {
         return Err(RuleFault::NoRoom);
     }
     let rule = Rule {
-        nodes: reader.used as u8,
+        nodes: reader.machine.nodes,
         actions: reader.machine.actions,
     };
     reader.keep();

@@ -3,12 +3,14 @@
 ghost use Rattle.std.specs.Prelude.{◌≡◌, ◌+◌, ◌<◌, ◌≤◌, length};
 ghost use Rattle.grammar.specs.Reading.{pull};
 ghost use Rattle.signs.specs.Reader.{mark_of};
+ghost use Rattle.rules.specs.Builders.{leaf_shape, part_at};
 ghost use Rattle.rules.specs.Machines.{machine_of};
 ghost use Rattle.rules.specs.Nodes.{blank};
-ghost use Rattle.rules.specs.Readers.{LooksUp, Moves, Stays, ahead_by, means_of, named_by, pulled_of, standing, with_node};
+ghost use Rattle.rules.specs.Readers.{LooksUp, Moves, Stays, ahead_by, means_of, named_by, pulled_of, standing};
 
 use crate::machine::Machine;
 use crate::node::Node;
+use crate::part::Built;
 use grammar::RuleFault;
 use sheet::{Named, Names};
 use signs::{Sign, SignReader};
@@ -23,15 +25,13 @@ pub(crate) struct Reader<'t, 'n> {
     pub(crate) names: &'t Names,
     // The place of the text's end.
     pub(crate) end: usize,
-    // How many nodes the rule has so far, whether or not there was room for them.
-    pub(crate) used: usize,
     pub(crate) machine: Machine,
 }
 
-// A sign that was judged, with what it names if it is a name; none at the end.
+// A sign that was judged, with what it names if it is a name.
 #[derive(Clone, Copy)]
-pub(crate) struct Pulled<'t> {
-    pub(crate) sign: Option<Sign<'t>>,
+pub(crate) struct Judged<'t> {
+    pub(crate) sign: Sign<'t>,
     pub(crate) named: Option<Named>,
 }
 
@@ -47,7 +47,6 @@ impl Drop for Reader<'_, '_> {
             signs: _,
             names: _,
             end: _,
-            used: _,
             machine: _,
         } = self;
     }
@@ -64,25 +63,24 @@ impl<'t> Reader<'t, '_> {
             signs: _,
             names: _,
             end: _,
-            used: _,
             machine: _,
         } = self;
     }
 
-    // Adds a node, and answers its place; where there is no room for it, it is only counted.
-    pub(crate) fn put(&mut self, node: Node) -> u8
-        requires { self.old.used < 256 }
-        ensures name { self.new.nodes.ghost_name ≡ self.old.nodes.ghost_name }
+    // Adds a node, the root of a part; where there is no room for it, it is only counted.
+    pub(crate) fn put(&mut self, node: Node, is_test: bool) -> Built
+        requires { self.old.machine.nodes < self.old.machine.signs }
         ensures stays { Stays self.old self.new }
-        ensures root { result ≡ self.old.used }
-        ensures adds { standing self.new ≡ with_node node (standing self.old) }
+        ensures as_defined { part_at result self.new ≡ leaf_shape node is_test (standing self.old) }
     {
-        let at = self.used;
+        let root = self.machine.nodes;
+        let at = usize::from(root);
+        // The place is tested by hand, since behind `get_mut` the proof doesn't see that the other fields stay.
         if at < self.nodes.len() {
             self.nodes[at] = node;
         }
-        self.used = at + 1;
-        at as u8
+        self.machine.nodes += 1;
+        Built { root, is_test }
     }
 
     // What a sign names, if it is a name.
@@ -95,29 +93,22 @@ impl<'t> Reader<'t, '_> {
         }
     }
 
-    // Reads the next sign and judges it, with so many levels left to open.
-    pub(crate) fn pull(&mut self, levels: u8) -> Result<Pulled<'t>, RuleFault>
+    // Reads the next sign and judges it, with so many levels left to open; there is none at the end.
+    pub(crate) fn pull(&mut self, levels: u8) -> Result<Option<Judged<'t>>, RuleFault>
         requires { self.old.machine.brackets + levels ≤ 32 }
-        ensures name { self.new.nodes.ghost_name ≡ self.old.nodes.ghost_name }
         ensures stays { Stays self.old self.new }
         ensures as_defined { pulled_of result self.new ≡ pull (means_of self.old.names.now) levels (ahead_by self.old) (machine_of self.old.machine) }
         ensures looked_up { LooksUp (means_of self.old.names.now) result }
         ensures no_node { self.new.nodes.now ≡ self.old.nodes.now }
-        ensures none_counted { self.new.used ≡ self.old.used }
+        ensures none_counted { self.new.machine.nodes ≡ self.old.machine.nodes }
         ensures moves { Moves levels result self.old self.new }
     {
         let Some(sign) = self.signs.next()? else {
             self.machine.end(self.end)?;
-            return Ok(Pulled {
-                sign: None,
-                named: None,
-            });
+            return Ok(None);
         };
         let named = self.named(sign);
         self.machine.judge(sign, named, levels)?;
-        Ok(Pulled {
-            sign: Some(sign),
-            named,
-        })
+        Ok(Some(Judged { sign, named }))
     }
 }

@@ -1,16 +1,10 @@
 -- A test gets the node of its negation.
-use Rattle.std.proofs.Common.{true, None, ◌∙◌}
+use Rattle.std.proofs.Common.{Ok, ap, ◌∙◌}
 use Rattle.std.proofs.lemmas.Bool.{not-false}
-use Rattle.rules.specs.Readers.{standing}
-use Rattle.rules.proofs.Shapes.{negated, one_more, with_root}
+use Rattle.rules.specs.Builders.{part_at}
+use Rattle.rules.proofs.Shapes.{negated}
 use Rattle.rules.proofs.reader.Reader.negate.Goals as goal
 
-pub returns : goal.returns
-returns c =
-    let put = c.put-root.ensures in
-    record {
-      name = put.name;
-      stays = put.stays;
-      as_defined = λ used nodes d e. with_root _ _ true None _ _ put.root put.adds ∙ negated used nodes c.args.place d (record { root = c.args.unit.root; test = c.args.unit.is_test; next = None; then = standing c.args.self.now }) (not-false _ c.if-not-unit.false) e;
-      adds = one_more _ _ _ put.adds;
-    }
+pub returns-clause-as_defined : goal.returns-clause-as_defined
+returns-clause-as_defined c = λ used nodes d e.
+    ap Ok c.put.ensures.as_defined ∙ negated used nodes c.args.place d (part_at c.args.unit c.args.self.now) (not-false _ c.if-not-unit.false) e
