@@ -1,7 +1,9 @@
 -- What the flow of the tables answers, bit by bit.
-use Rattle.std.proofs.Common.{◌≡◌, ℕ, zero, suc, ◌+◌, ◌-◌, ◌/◌, ◌%◌, ◌^◌, ◌<◌, ◌≤◌, Bool, true, false, ◌&&◌, ◌||◌, eqb, sym, refl, ap, ◌∙◌, ap₂, ⊎_elim, add-one, arith}
+use Rattle.std.proofs.Common.{◌≡◌, ℕ, zero, suc, ◌+◌, ◌-◌, ◌/◌, ◌%◌, ◌^◌, ◌<◌, ◌≤◌, Bool, true, false, ◌&&◌, ◌||◌, eqb, sym, refl, ap, ◌∙◌, ap₂, ⊎_elim, add-one, arith, pow_mono}
+use native.Mathlib.Nat.{div-eq_of_lt}
+use lib.Count.{count_leading_zeros}
 use lib.Bits.{and_le_l, and_le_r, bit_and, bit_or}
-use Rattle.std.proofs.lemmas.Nat.{shr-shr}
+use Rattle.std.proofs.lemmas.Nat.{leading_length, shr-shr}
 use Rattle.std.proofs.lemmas.Bool.{cases_Bool, cases_eq, eq-eqb, ne_eqb, or_parts}
 use Rattle.masks.specs.Bits.{bit}
 use Rattle.masks.proofs.Bits.{bit_of_bits, bits_fit, bits_of_fitting, no_bits}
@@ -95,8 +97,18 @@ later row code p q (suc more) none =
     ∙ or_false (any_below (λ k. bit k code && bit q (row k)) (p + more))
     ∙ later row code p q more none
 
--- Where no place is left that is marked, or all are gone through, the union is whole.
-pub gone_all : (row : ℕ → ℕ) (code p rest union : ℕ) → Gone row code p rest union → rest ≡ 0 → p ≤ 64 → (q : ℕ) → bit q union ≡ reaches row code q
+-- Where no place is left that is marked, the union is whole.
+gone_all : (row : ℕ → ℕ) (code p rest union : ℕ) → Gone row code p rest union → rest ≡ 0 → p ≤ 64 → (q : ℕ) → bit q union ≡ reaches row code q
 gone_all row code p rest union gone none le q =
     let whole : 64 ≡ p + (64 - p) = omega arith in
     gone.so_far q ∙ sym (later row code p q (64 - p) (sym gone.shifted ∙ none)) ∙ ap (any_below (λ k. bit k code && bit q (row k))) (sym whole)
+
+-- So it is behind the last place that is marked.
+pub gone_reached : (row : ℕ → ℕ) (code p rest union : ℕ) → code < 2 ^ 64 → Gone row code p rest union → 64 - count_leading_zeros 64 code ≤ p → p ≤ 64 → (q : ℕ) → bit q union ≡ reaches row code q
+gone_reached row code p rest union fits gone reach le =
+    let last = leading_length 64 code fits in
+    let count = last.1 in
+    let short = last.2 in
+    let wide : 2 ^ last.0 ≤ 2 ^ p = pow_mono (omega arith) in
+    let below : code < 2 ^ p = omega arith in
+    gone_all row code p rest union gone (gone.shifted ∙ div-eq_of_lt below) le
