@@ -13,9 +13,9 @@ use Rattle.kat.specs.Terms.{Term}
 use Rattle.grammar.specs.Derivations.{Rule}
 use Rattle.grammar.specs.Reading.{Ahead, faulty, over, read_ahead, sign}
 use Rattle.grammar.specs.Theorems.{infront}
-use Rattle.grammar.specs.declared.fault.RuleFault.{RuleFault}
 use Rattle.grammar.specs.declared.fault.RuleFault.TheVariants.{Sign}
 use Rattle.grammar.proofs.Granted.{fault_never_granted, granted_is_a_rule}
+use Rattle.grammar.proofs.Results.{err_not_ok}
 use Rattle.grammar.proofs.Rules.{one_term, rule_is_granted}
 use Rattle.rules.specs.Aheads.{ahead_in, ahead_to, then_ahead}
 use Rattle.rules.specs.Granted.{GrantedExactlyForRules}
@@ -50,9 +50,6 @@ lies end text (suc fuel) place le = go (next_sign place (drop place text)) (step
 whole_lies : (text : List ℕ) → Lies (length text) (ahead_in text) (signs_from false 0 text)
 whole_lies text = lies (length text) text (length text) 0 (omega arith)
 
-refused : {X : Type 0} (fault : RuleFault) (e : Term) → ◌≡◌ {A = Result Term RuleFault} (Err fault) (Ok e) → X
-refused fault e h = let z : ◌≡◌ {A = ℕ} 0 1 = cc in absurd (omega arith)
-
 module _ (means : List ℕ → Option Named) (text : List ℕ) where
   from_signs : (r : Result (List Mark) SignFault) → signs_from false 0 text ≡ r → length text ≤ 4096 → (e : Term) → read_ahead means (ahead_in text) ≡ Ok e
       → (signs : List Mark) × (signs_of text ≡ Ok signs) × Rule means signs e
@@ -65,14 +62,11 @@ module _ (means : List ℕ → Option Named) (text : List ℕ) where
 
   sound : (long : Bool) → ltb 4096 (length text) ≡ long → (e : Term) → cond long (Err (Sign TextTooLong)) (read_ahead means (ahead_in text)) ≡ Ok e
       → (signs : List Mark) × (signs_of text ≡ Ok signs) × Rule means signs e
-  sound true is e h = refused (Sign TextTooLong) e h
+  sound true is e h = absurd (err_not_ok h)
   sound false is e h = from_signs (signs_from false 0 text) refl (ltb-false 4096 (length text) is) e h
 
   complete : (long : Bool) → ltb 4096 (length text) ≡ long → (signs : List Mark) (e : Term) → signs_of text ≡ Ok signs → Rule means signs e → read_text means text ≡ Ok e
-  complete true is signs e h rule =
-      let beyond = refused_beyond text (ltb-true 4096 (length text) is) in
-      let z : ◌≡◌ {A = ℕ} 0 1 = cc in
-      absurd (omega arith)
+  complete true is signs e h rule = absurd (err_not_ok (sym (refused_beyond text (ltb-true 4096 (length text) is)) ∙ h))
   complete false is signs e h rule =
       let few = ltb-false 4096 (length text) is in
       let read = sym (read_within text few) ∙ h in

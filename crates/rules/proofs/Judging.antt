@@ -1,30 +1,17 @@
 -- What a sign that was judged did to the state, on values alone. Serves the pull of the next sign.
-use Rattle.std.proofs.Common.{◌≡◌, ℕ, ◌+◌, ◌<◌, ◌≤◌, Bool, true, false, cond, not, ◌&&◌, eqb, List, Some, None, Ok, Err, Option, Result, sym, refl, ap, ◌∙◌, arith}
-use Rattle.std.proofs.lemmas.Bool.{false≢true, ltb-true, not-false}
-use Rattle.std.proofs.lemmas.Bool.Decides.{nat_tests}
-use Rattle.signs.specs.Signs.{Mark, stands_at, named, skipping, stopping, opening, closing, negating, repeating, following, choosing}
+use Rattle.std.proofs.Common.{◌≡◌, ℕ, zero, suc, ◌+◌, ◌<◌, ◌≤◌, Bool, true, false, cond, eqb, List, Some, None, Ok, Err, Option, Result, sym, refl, ap, ◌∙◌, arith}
+use Rattle.std.proofs.lemmas.Bool.{false≢true, ltb-true}
+use Rattle.signs.specs.Signs.{Mark, named, skipping, stopping, opening, closing, negating, repeating, following, choosing}
 use Rattle.sheet.specs.declared.named.Named.{Named}
 use Rattle.sheet.specs.declared.named.Named.TheVariants.{Test, Action}
-use Rattle.grammar.specs.Reading.{Ahead, Machine, Pulled, Wants, end_fits, faulty, fits, following', is_bracket, judge, judged, opens, over, pull, sign, signs_left, take, take_name, wanting}
+use Rattle.grammar.specs.Reading.{Ahead, Machine, Pulled, Wants, end_fits, faulty, fits, following', judge, judged, opens, over, pull, sign, signs_left, take, take_name, wanting}
 use Rattle.grammar.specs.declared.fault.RuleFault.{RuleFault}
-use Rattle.grammar.specs.declared.fault.RuleFault.TheVariants.{TooMany, Unfit, TooDeep}
+use Rattle.grammar.specs.declared.fault.RuleFault.TheVariants.{TooMany, Unfit}
+use Rattle.grammar.proofs.Judging.{was_taken}
+use Rattle.grammar.proofs.Results.{err_not_ok, ok_same, past_test, through_test}
 use Rattle.rules.specs.Machines.{outcome}
 use Rattle.rules.specs.Readers.{Moved, Standing, bracket_in, close_in, count_in, level_in, named_by, sign_in}
 use Rattle.rules.specs.declared.machine.Machine as code
-
-pub ok_same : {X : Type 0} (x y : X) → ◌≡◌ {A = Result X RuleFault} (Ok x) (Ok y) → x ≡ y
-ok_same x y e = cc
-
--- a test that did not refuse
-pub granted : {X : Type 0} (b : Bool) (fault : RuleFault) (r : Result X RuleFault) (x : X) → cond b (Err fault) r ≡ Ok x → (b ≡ false) × (r ≡ Ok x)
-granted true fault r x e = let z : ◌≡◌ {A = ℕ} 0 1 = cc in absurd (omega arith)
-granted false fault r x e = (refl, e)
-
-pub granted_thrice : (a b c : Bool) (x y z : RuleFault) (r : Result Machine RuleFault) (n : Machine) → cond a (Err x) (cond b (Err y) (cond c (Err z) r)) ≡ Ok n → (b ≡ false) × (c ≡ false) × (r ≡ Ok n)
-granted_thrice a b c x y z r n e =
-    let second = granted b y (cond c (Err z) r) n (granted a x (cond b (Err y) (cond c (Err z) r)) n e).1 in
-    let third = granted c z r n second.1 in
-    (second.0, third.0, third.1)
 
 -- what a sign that was taken counts
 record Counts (m : Mark) (a b : Machine) : Type 0 where
@@ -32,11 +19,11 @@ record Counts (m : Mark) (a b : Machine) : Type 0 where
   brackets : b.brackets + close_in (Some m) ≤ a.brackets + bracket_in (Some m)
 
 name_counts : (o : Option Named) (name : List ℕ) (place : ℕ) (a b : Machine) → take_name o place a ≡ Ok b → Counts (named name place) a b
-name_counts None name place a b e = let z : ◌≡◌ {A = ℕ} 0 1 = cc in absurd (omega arith)
-name_counts (Some (Test t)) name place a b e = rw (← ok_same _ b e) (record { signs = refl; brackets = omega arith })
+name_counts None name place a b e = absurd (err_not_ok e)
+name_counts (Some (Test t)) name place a b e = rw (← ok_same e) (record { signs = refl; brackets = omega arith })
 name_counts (Some (Action t)) name place a b e =
     let behind : Machine = record { wants = following'; brackets = a.brackets; signs = a.signs + 1; actions = a.actions + 1 } in
-    rw (← ok_same behind b (granted (eqb a.actions 63) (TooMany place) (Ok behind) b e).1) (record { signs = refl; brackets = omega arith })
+    rw (← ok_same (past_test (eqb a.actions 63) (TooMany place) (Ok behind) b e).1) (record { signs = refl; brackets = omega arith })
 
 -- a bracket that is closed was open
 was_open : (w : Wants) (open' place : ℕ) → fits w open' (closing place) ≡ true → 0 < open'
@@ -45,19 +32,21 @@ was_open following' open' place e = ltb-true 0 open' e
 
 take_counts : (means : List ℕ → Option Named) (m : Mark) (a b : Machine) → fits a.wants a.brackets m ≡ true → take means m a ≡ Ok b → Counts m a b
 take_counts means (named name place) a b fit e = name_counts (means name) name place a b e
-take_counts means (skipping place) a b fit e = rw (← ok_same _ b e) (record { signs = refl; brackets = omega arith })
-take_counts means (stopping place) a b fit e = rw (← ok_same _ b e) (record { signs = refl; brackets = omega arith })
-take_counts means (opening place) a b fit e = rw (← ok_same _ b e) (record { signs = omega arith; brackets = omega arith })
+take_counts means (skipping place) a b fit e = rw (← ok_same e) (record { signs = refl; brackets = omega arith })
+take_counts means (stopping place) a b fit e = rw (← ok_same e) (record { signs = refl; brackets = omega arith })
+take_counts means (opening place) a b fit e = rw (← ok_same e) (record { signs = omega arith; brackets = omega arith })
 take_counts means (closing place) a b fit e =
     let some = was_open a.wants a.brackets place fit in
-    rw (← ok_same _ b e) (record { signs = omega arith; brackets = omega arith })
-take_counts means (negating place) a b fit e = rw (← ok_same _ b e) (record { signs = refl; brackets = omega arith })
-take_counts means (repeating place) a b fit e = rw (← ok_same _ b e) (record { signs = refl; brackets = omega arith })
-take_counts means (following place) a b fit e = rw (← ok_same _ b e) (record { signs = refl; brackets = omega arith })
-take_counts means (choosing place) a b fit e = rw (← ok_same _ b e) (record { signs = refl; brackets = omega arith })
+    rw (← ok_same e) (record { signs = omega arith; brackets = omega arith })
+take_counts means (negating place) a b fit e = rw (← ok_same e) (record { signs = refl; brackets = omega arith })
+take_counts means (repeating place) a b fit e = rw (← ok_same e) (record { signs = refl; brackets = omega arith })
+take_counts means (following place) a b fit e = rw (← ok_same e) (record { signs = refl; brackets = omega arith })
+take_counts means (choosing place) a b fit e = rw (← ok_same e) (record { signs = refl; brackets = omega arith })
 
-level_left : (o : Bool) (levels : ℕ) → (o && eqb levels 0) ≡ false → cond o 1 0 ≤ levels
-level_left o levels e = grind (arith, nat_tests)
+level_left : (o : Bool) (levels : ℕ) → (o ≡ true → levels ≡ 0 → ⊥) → cond o 1 0 ≤ levels
+level_left true zero some = absurd (some refl refl)
+level_left true (suc levels) some = omega arith
+level_left false levels some = omega arith
 
 -- what a pull did
 record Pulls (levels : ℕ) (ahead : Ahead) (a : Machine) (p : Pulled) : Type 0 where
@@ -66,23 +55,19 @@ record Pulls (levels : ℕ) (ahead : Ahead) (a : Machine) (p : Pulled) : Type 0 
   brackets : p.machine.brackets + close_in p.mark ≤ a.brackets + bracket_in p.mark
   level : level_in p.mark ≤ levels
 
-pub end_same : {X : Type 0} (b : Bool) (x y : X) (fault : RuleFault) → cond {A = Result X RuleFault} b (Ok x) (Err fault) ≡ Ok y → x ≡ y
-end_same true x y fault e = ok_same x y e
-end_same false x y fault e = let z : ◌≡◌ {A = ℕ} 0 1 = cc in absurd (omega arith)
-
 judged_pulls : (means : List ℕ → Option Named) (levels : ℕ) (m : Mark) (ahead : Ahead) (a : Machine) (p : Pulled) (r : Result Machine RuleFault) → judge means levels m a ≡ r → judged m ahead r ≡ Ok p
     → Pulls levels (sign m ahead) a p
-judged_pulls means levels m ahead a p (Err fault) j e = let z : ◌≡◌ {A = ℕ} 0 1 = cc in absurd (omega arith)
+judged_pulls means levels m ahead a p (Err fault) j e = absurd (err_not_ok e)
 judged_pulls means levels m ahead a p (Ok b) j e =
-    let deep = granted_thrice (not (is_bracket m) && eqb a.signs 255) (not (fits a.wants a.brackets m)) (opens m && eqb levels 0) (TooMany (stands_at m)) (Unfit (stands_at m)) (TooDeep (stands_at m)) (take means m a) b j in
-    let counts = take_counts means m a b (not-false _ deep.0) deep.2 in
-    rw (← ok_same _ p e) (record { left = omega arith; signs = counts.signs; brackets = counts.brackets; level = level_left (opens m) levels deep.1 })
+    let t = was_taken means levels m a b j in
+    let counts = take_counts means m a b t.fitting t.taken in
+    rw (← ok_same e) (record { left = omega arith; signs = counts.signs; brackets = counts.brackets; level = level_left (opens m) levels t.level })
 
 pulls : (means : List ℕ → Option Named) (levels : ℕ) (ahead : Ahead) (a : Machine) (p : Pulled) → pull means levels ahead a ≡ Ok p → Pulls levels ahead a p
 pulls means levels (sign m ahead) a p e = judged_pulls means levels m ahead a p (judge means levels m a) refl e
 pulls means levels (over place) a p e =
-    rw (← end_same (end_fits a) (record { mark = None; ahead = over place; machine = a }) p (Unfit place) e) (record { left = omega arith; signs = omega arith; brackets = omega arith; level = omega arith })
-pulls means levels (faulty fault) a p e = let z : ◌≡◌ {A = ℕ} 0 1 = cc in absurd (omega arith)
+    rw (← ok_same (through_test (end_fits a) (Unfit place) (Ok (record { mark = None; ahead = over place; machine = a })) p e).1) (record { left = omega arith; signs = omega arith; brackets = omega arith; level = omega arith })
+pulls means levels (faulty fault) a p e = absurd (err_not_ok e)
 
 pub pull_moves : (means : List ℕ → Option Named) (levels : ℕ) (mark : Option Mark) (a b : Standing) → Ok (record { mark = mark; ahead = b.ahead; machine = b.machine }) ≡ pull means levels a.ahead a.machine → Moved levels mark a b
 pull_moves means levels mark a b e =

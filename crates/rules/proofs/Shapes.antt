@@ -11,7 +11,7 @@ use Rattle.rules.specs.Nodes.{flat, root_at}
 use Rattle.rules.specs.Readers.{with_node}
 use Rattle.rules.specs.declared.node.Node.{Node}
 use Rattle.rules.specs.declared.node.Node.TheVariants.{Not}
-use Rattle.rules.proofs.Judging.{ok_same}
+use Rattle.grammar.proofs.Results.{err_not_ok, ok_same}
 
 -- every term has a node
 pub size_pos : (e : Term) → 0 < size e
@@ -46,20 +46,20 @@ sets_more nodes used e node =
 
 -- what was shown came from a reading that was granted
 pub got_built : (used : ℕ) (nodes : List Node) (d : Result Built RuleFault) (s : Shape) → Ok s ≡ shown_built used nodes d → (b : Built) × (d ≡ Ok b) × (s ≡ shape_of used nodes b.term None b.ahead b.machine)
-got_built used nodes (Ok b) s e = (b, refl, ok_same s _ e)
-got_built used nodes (Err fault) s e = let z : ◌≡◌ {A = ℕ} 0 1 = cc in absurd (omega arith)
+got_built used nodes (Ok b) s e = (b, refl, ok_same e)
+got_built used nodes (Err fault) s e = absurd (err_not_ok (sym e))
 
 pub got_grown : (used : ℕ) (nodes : List Node) (d : Result Grown RuleFault) (s : Shape) → Ok s ≡ shown_grown used nodes d → (g : Grown) × (d ≡ Ok g) × (s ≡ shape_of used nodes g.term g.next g.ahead g.machine)
-got_grown used nodes (Ok g) s e = (g, refl, ok_same s _ e)
-got_grown used nodes (Err fault) s e = let z : ◌≡◌ {A = ℕ} 0 1 = cc in absurd (omega arith)
+got_grown used nodes (Ok g) s e = (g, refl, ok_same e)
+got_grown used nodes (Err fault) s e = absurd (err_not_ok (sym e))
 
 -- or from one that was refused
 pub lost_built : (used : ℕ) (nodes : List Node) (d : Result Built RuleFault) (fault : RuleFault) → Err fault ≡ shown_built used nodes d → d ≡ Err fault
-lost_built used nodes (Ok b) fault e = let z : ◌≡◌ {A = ℕ} 0 1 = cc in absurd (omega arith)
+lost_built used nodes (Ok b) fault e = absurd (err_not_ok e)
 lost_built used nodes (Err x) fault e = cc
 
 pub lost_grown : (used : ℕ) (nodes : List Node) (d : Result Grown RuleFault) (fault : RuleFault) → Err fault ≡ shown_grown used nodes d → d ≡ Err fault
-lost_grown used nodes (Ok g) fault e = let z : ◌≡◌ {A = ℕ} 0 1 = cc in absurd (omega arith)
+lost_grown used nodes (Ok g) fault e = absurd (err_not_ok e)
 lost_grown used nodes (Err x) fault e = cc
 
 -- a part with one node more, which names it

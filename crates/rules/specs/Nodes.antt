@@ -36,11 +36,15 @@ term_at part (Choice a b) = choice (part a) (part b)
 term_at part (Chain a b) = chain (part a) (part b)
 term_at part (Star a) = star (part a)
 
--- The term whose root stands at a place, read back from the nodes: parts stand in front of what they are parts of, so that
--- as much fuel as there are nodes up to the root is enough.
+-- The term whose root stands at a place, read back from the nodes, where `seen` says what its parts are from there: parts
+-- stand in front of what they are parts of, so that as much fuel as there are nodes up to the root is enough.
+abbrev pub decode_by : (ℕ → (ℕ → Term) → ℕ → Term) → ℕ → List Node → ℕ → Term
+decode_by seen zero nodes root = stop
+decode_by seen (suc fuel) nodes root = term_at (seen root (decode_by seen fuel nodes)) (slice_index_or nodes root Empty)
+
+-- The same where each part is what stands at its place.
 abbrev pub decode_with : ℕ → List Node → ℕ → Term
-decode_with zero nodes root = stop
-decode_with (suc fuel) nodes root = term_at (decode_with fuel nodes) (slice_index_or nodes root Empty)
+decode_with fuel nodes root = decode_by (λ from part. part) fuel nodes root
 
 abbrev pub decode : List Node → ℕ → Term
 decode nodes root = decode_with (suc root) nodes root

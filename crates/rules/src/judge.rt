@@ -47,12 +47,10 @@ impl Machine {
         match named {
             None => return Err(RuleFault::UnknownName(place)),
             Some(Named::Test(_)) => {}
-            Some(Named::Action(_)) => {
-                if self.actions == ACTIONS {
-                    return Err(RuleFault::TooMany(place));
-                }
-                self.actions += 1;
+            Some(Named::Action(_)) if self.actions == ACTIONS => {
+                return Err(RuleFault::TooMany(place));
             }
+            Some(Named::Action(_)) => self.actions += 1,
         }
         self.signs += 1;
         self.wants = Wants::Following;
@@ -76,18 +74,11 @@ impl Machine {
             return Err(RuleFault::TooMany(sign.place()));
         }
         match (self.wants, sign) {
-            (Wants::Wanting, Sign::Open(place)) => {
-                if levels == 0 {
-                    return Err(RuleFault::TooDeep(place));
-                }
-                self.brackets += 1;
+            (Wants::Wanting, Sign::Open(place) | Sign::Not(place)) if levels == 0 => {
+                return Err(RuleFault::TooDeep(place));
             }
-            (Wants::Wanting, Sign::Not(place)) => {
-                if levels == 0 {
-                    return Err(RuleFault::TooDeep(place));
-                }
-                self.signs += 1;
-            }
+            (Wants::Wanting, Sign::Open(_)) => self.brackets += 1,
+            (Wants::Wanting, Sign::Not(_)) => self.signs += 1,
             (Wants::Wanting, Sign::Name(_, place)) => return self.take_name(named, place),
             (Wants::Wanting, Sign::Skip(_) | Sign::Stop(_)) => {
                 self.signs += 1;
@@ -98,12 +89,7 @@ impl Machine {
                 self.signs += 1;
                 self.wants = Wants::Wanting;
             }
-            (Wants::Following, Sign::Close(place)) => {
-                if self.brackets == 0 {
-                    return Err(RuleFault::Unfit(place));
-                }
-                self.brackets -= 1;
-            }
+            (Wants::Following, Sign::Close(_)) if self.brackets > 0 => self.brackets -= 1,
             _ => return Err(RuleFault::Unfit(sign.place())),
         }
         Ok(())
