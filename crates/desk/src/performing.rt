@@ -58,7 +58,8 @@ impl Desk {
         }
     }
 
-    // Names the next test of the sheet.
+    // Names the next test of the sheet. It and `name_action` call what they are named for, and a call passed on as a closure
+    // would need a contract longer than either.
     fn name_test<'a>(&mut self, name: &[u8]) -> Option<Reply<'a>>
         ensures answer { option_map said_by result ≡ (performed (desk_of self.old) (test name.now)).reply }
         ensures after { desk_of self.new ≡ (performed (desk_of self.old) (test name.now)).after }

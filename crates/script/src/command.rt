@@ -23,7 +23,8 @@ pub enum Command<'a> {
     Read(&'a [u8]),
 }
 
-// A line of a script.
+// A line of a script. A line that is passed over and one that is not understood are two answers, and neither is a failure, so
+// they are cases here and no `Option` in a `Result`.
 #[derive(Drop)]
 pub enum Line<'a> {
     // Nothing is asked: the line has no words, or is a comment.

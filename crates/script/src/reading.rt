@@ -17,7 +17,7 @@ fn is_comment(first: &[u8]) -> bool
     first.starts_with(b"#")
 }
 
-// The words as parts of a vocabulary, a kind and a number each.
+// The words as parts of a vocabulary, a kind and a number each: two words a turn, so the loop asks for them itself.
 fn parts(heap: Global, rest: &[u8]) -> Result<Option<Vec<Part>>, AllocError>
     ensures { IfOk result (λ p. option_map vec_items p ≡ parts_of (words_of rest.now)) }
 {

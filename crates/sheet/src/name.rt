@@ -2,7 +2,8 @@
 ghost use Rattle.std.specs.Prelude.{◌≡◌, ◌≤◌, true, take};
 ghost use Rattle.signs.specs.Names.{is_name};
 
-// A name of at most 12 bytes, as it was written. The bytes behind its length say nothing.
+// A name of at most 12 bytes, as it was written. The bytes behind its length say nothing. They are kept in place, since a
+// name is copied by value and takes no memory of its own.
 #[derive(Clone, Copy)]
 pub struct Name {
     pub(crate) bytes: [u8; 12],

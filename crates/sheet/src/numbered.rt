@@ -46,6 +46,7 @@ impl<const MOST: usize> Numbered<MOST> {
     pub(crate) fn len(&self) -> u8
         ensures counted { result ≡ length self.now }
     {
+        // Nothing is lost, as there are at most 255; a `try_from` would need an answer where there are more.
         self.names.len() as u8
     }
 
@@ -63,6 +64,7 @@ impl<const MOST: usize> Numbered<MOST> {
     pub(crate) fn number(&self, name: &Name) -> Option<u8>
         ensures found { result ≡ number_in self.now (bytes_of name.now) }
     {
+        // Nothing is lost, as in `len`.
         place_in(&self.names, name).map(|place| place as u8)
     }
 

@@ -34,7 +34,7 @@ impl Name {
     }
 }
 
-// Two names are the same where their bytes are, whatever stands behind them.
+// Two names are the same where their bytes are. Written by hand, since a derive would also compare what stands behind them.
 impl PartialEq for Name {
     ghost eq = { same_name };
 

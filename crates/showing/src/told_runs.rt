@@ -1,4 +1,4 @@
-// A run as text.
+// A run as text. It is put piece by piece, since the names in it are bytes.
 ghost use Rattle.std.specs.Prelude.{true, OnOk};
 ghost use Rattle.sheet.specs.Laid.{sheet_of};
 ghost use Rattle.texts.specs.Adds.{Adds};

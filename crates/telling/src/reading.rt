@@ -27,7 +27,8 @@ fn action(word: &[u8], names: &Names) -> Option<u8>
     }
 }
 
-// The bytes s0 a1 s1 .. an sn of the run that the words of a text tell; none where they tell no run.
+// The bytes s0 a1 s1 .. an sn of the run that the words of a text tell; none where they tell no run. A situation and an action
+// are two words, so the loop asks for them itself.
 pub fn read_run(
     heap: Global,
     text: &[u8],

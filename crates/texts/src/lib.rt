@@ -1,4 +1,5 @@
-// Texts, put behind what a buffer holds. Without memory for all of a text, what was put there of it is worth nothing.
+// Texts, put behind what a buffer holds. Without memory for all of a text, what was put there of it is worth nothing. A name
+// or a sign that was given is bytes of any kind, which no `Display` can write, so there is a call for bytes too.
 
 #![tactic(auto)]
 

@@ -13,7 +13,8 @@ pub struct Copied {
     situations: u8,
     // How many tests there are.
     tests: u8,
-    // Bit `s` of the mask at `t` says whether test `t` holds in situation `s`.
+    // Bit `s` of the mask at `t` says whether test `t` holds in situation `s`. There is room for all tests, since a copy is copied
+    // by value and takes no memory of its own.
     masks: [u64; MASKS],
     // What is copied has a situation.
     ghost some: { 1 ≤ situations },
