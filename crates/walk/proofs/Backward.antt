@@ -1,7 +1,7 @@
 -- The way back through a table, and the run that is read off it.
-use Rattle.std.proofs.Common.{◌≡◌, ℕ, zero, suc, ◌+◌, ◌-◌, ◌*◌, ◌<◌, ◌≤◌, List, [], ◌∷◌, ◌++◌, map, length, get_or, drop, set, sym, refl, ap, ◌∙◌, arith, length-append}
+use Rattle.std.proofs.Common.{◌≡◌, ℕ, zero, suc, ◌+◌, ◌*◌, ◌<◌, ◌≤◌, List, [], ◌∷◌, ◌++◌, map, length, get_or, drop, set, sym, refl, ap, ◌∙◌, arith, length-append}
 use lib.ListN.{get_or-map}
-use Rattle.std.proofs.lemmas.List.{drop-set, length-set}
+use Rattle.std.proofs.lemmas.List.{drop-set, length-set, nil_from_length}
 use Rattle.runs.specs.Runs.{Move}
 use Rattle.runs.specs.Tracing.{traced_back, written_before}
 use Rattle.walk.specs.declared.record.PairRecord.{PairRecord}
@@ -66,55 +66,53 @@ bytes_written [] last rest = refl
 bytes_written (move ∷ moves) last rest = ap (λ bytes. move.situation ∷ move.action ∷ bytes) (bytes_written moves last rest)
 
 -- Two bytes written at a place lie before what is behind them.
-two_next : (place s a : ℕ) (run : List ℕ) → suc place < length run → drop place (set (set run place s) (suc place) a) ≡ s ∷ a ∷ drop (suc (suc place)) run
-two_next zero s a [] h = absurd (omega arith)
-two_next zero s a (x ∷ []) h = absurd (omega arith)
-two_next zero s a (x ∷ y ∷ run) h = refl
-two_next (suc place) s a [] h = absurd (omega arith)
-two_next (suc place) s a (x ∷ run) h = two_next place s a run (omega arith)
+two_written : (place s a : ℕ) (run : List ℕ) → suc place < length run → drop place (set (set run place s) (suc place) a) ≡ s ∷ a ∷ drop (suc (suc place)) run
+two_written zero s a [] h = absurd (omega arith)
+two_written zero s a (x ∷ []) h = absurd (omega arith)
+two_written zero s a (x ∷ y ∷ run) h = refl
+two_written (suc place) s a [] h = absurd (omega arith)
+two_written (suc place) s a (x ∷ run) h = two_written place s a run (omega arith)
 
-two_written : (place next behind s a : ℕ) (run : List ℕ) → next ≡ suc place → behind ≡ suc next → next < length run
-    → drop place (set (set run place s) next a) ≡ s ∷ a ∷ drop behind run
-two_written place next behind s a run is-next is-behind h =
-    ap (λ n. drop place (set (set run place s) n a)) is-next ∙ two_next place s a run (omega arith)
-    ∙ ap (λ n. s ∷ a ∷ drop n run) (sym (is-behind ∙ ap suc is-next))
-
--- Of all records on a way the rest are left; the moves of the others have been written behind a place, over what the buffer held when the last situation stood
--- in it.
-pub record Writing (all rest : List PairRecord) (begun run : List ℕ) (place : ℕ) : Type 0 where
-  pub left : place ≡ 2 * length rest
-  pub fits : place < length run
-  pub whole : bytes_before (moves_of rest) (drop place run) ≡ bytes_before (moves_of all) (drop (2 * length all) begun)
+-- Of all records on a way the rest are left, in so many turns; the moves of the others have been written behind their place, over what the buffer held when the
+-- last situation stood in it.
+pub record Writing (all rest : List PairRecord) (begun run : List ℕ) (turns : ℕ) : Type 0 where
+  pub left : turns ≡ length rest
+  pub fits : 2 * turns < length run
+  pub whole : bytes_before (moves_of rest) (drop (2 * turns) run) ≡ bytes_before (moves_of all) (drop (2 * length all) begun)
 
 -- No move has been.
-pub write_none : (all rest : List PairRecord) (begun : List ℕ) (actions : ℕ) → rest ≡ all → actions ≡ length all → 2 * actions < length begun → Writing all rest begun begun (2 * actions)
-write_none all rest begun actions is many fits = record {
+pub write_none : {all rest : List PairRecord} {begun : List ℕ} {actions turns : ℕ} → rest ≡ all → turns ≡ actions → actions ≡ length all → 2 * actions < length begun
+    → Writing all rest begun begun turns
+write_none {all} {rest} {begun} {actions} {turns} is same many fits = record {
   left = omega (arith, ap length is);
-  fits = fits;
-  whole = (λ j. bytes_before (moves_of (is j)) (drop (2 * many j) begun));
+  fits = omega arith;
+  whole = (λ j. bytes_before (moves_of (is j)) (drop (2 * (same ∙ many) j) begun));
 }
 
 -- The moves of one record more have been.
-pub write_more : {all rest left : List PairRecord} {begun run : List ℕ} {place : ℕ} (entry : PairRecord) → Writing all rest begun run place → rest ≡ entry ∷ left
-    → Writing all left begun (set (set run (place - 2) entry.situation) (place - 2 + 1) entry.action) (place - 2)
-write_more {all} {rest} {left} {begun} {run} {place} entry w is =
-    let two : 2 ≤ place = omega (arith, w.left, ap length is) in
+pub write_more : {all rest left : List PairRecord} {begun run : List ℕ} {turns turn after : ℕ} (entry : PairRecord) → Writing all rest begun run turns → rest ≡ entry ∷ left
+    → turn ≡ after → turns ≡ after + 1 → Writing all left begun (set (set run (2 * turn) entry.situation) (2 * turn + 1) entry.action) after
+write_more {all} {rest} {left} {begun} {run} {turns} {turn} {after} entry w is at one =
+    let next : suc (2 * turn) ≡ 2 * turn + 1 = omega arith in
+    let behind : suc (suc (2 * turn)) ≡ 2 * turns = omega arith in
     record {
       left = omega (arith, w.left, ap length is);
       fits = simp length-set (omega (arith, w.fits));
       whole =
-          ap (bytes_before (moves_of left)) (two_written (place - 2) (place - 2 + 1) place _ _ run (omega arith) (omega arith) (omega (arith, w.fits)))
-          ∙ sym (ap (λ records. bytes_before (moves_of records) (drop place run)) is ∙ bytes_more (moves_of left) (listed_of entry).move (drop place run))
+          ap (bytes_before (moves_of left))
+          ((λ j. drop (2 * sym at j) (set (set run (2 * turn) entry.situation) (sym next j) entry.action)) ∙ two_written (2 * turn) entry.situation entry.action run (omega (arith, w.fits))
+          ∙ ap (λ n. entry.situation ∷ entry.action ∷ drop n run) behind)
+          ∙ sym (ap (λ records. bytes_before (moves_of records) (drop (2 * turns) run)) is ∙ bytes_more (moves_of left) (listed_of entry).move (drop (2 * turns) run))
           ∙ w.whole;
     }
 
 -- All have been, and so the run has.
-pub write_all : {rest : List PairRecord} {run : List ℕ} {place : ℕ} (table : List PairRecord) (i : ℕ) (begun : List ℕ) (actions last : ℕ)
-    → Writing (way_back table i) rest (set begun (2 * actions) last) run place → rest ≡ [] → actions ≡ length (moves_to table i) → 2 * actions + 1 ≤ length begun
+pub write_all : {rest : List PairRecord} {run : List ℕ} {turns : ℕ} (table : List PairRecord) (i : ℕ) (begun : List ℕ) (actions last : ℕ)
+    → Writing (way_back table i) rest (set begun (2 * actions) last) run turns → turns ≡ 0 → actions ≡ length (moves_to table i) → 2 * actions + 1 ≤ length begun
     → run ≡ written_before (moves_to table i) last ++ drop (2 * actions + 1) begun
-write_all {rest} {run} {place} table i begun actions last w none many fits =
-    let front : place ≡ 0 = omega (arith, w.left, ap length none) in
+write_all {rest} {run} {turns} table i begun actions last w none many fits =
+    let nothing : rest ≡ [] = nil_from_length rest (omega (arith, w.left)) in
     let all : actions ≡ length (way_back table i) = many ∙ sym (way_length table i) in
-    sym (λ j. bytes_before (moves_of (none j)) (drop (front j) run)) ∙ w.whole
+    sym (λ j. bytes_before (moves_of (nothing j)) (drop (2 * none j) run)) ∙ w.whole
     ∙ (λ j. bytes_before (sym (moves_steps table i i) j) (((λ k. drop (2 * sym all k) (set begun (2 * actions) last)) ∙ drop-set begun (2 * actions) last (omega arith)) j))
     ∙ sym (bytes_written (moves_to table i) last (drop (2 * actions + 1) begun))

@@ -1,5 +1,5 @@
 -- The turns of the loop that examines a list: what is found from a pair on is what is found at all.
-use Rattle.std.proofs.Common.{◌≡◌, ℕ, suc, ◌+◌, ◌<◌, ◌≤◌, Bool, true, false, cond, List, map, length, get_or, drop, Some, None, sym, refl, ap, ◌∙◌, add-one, arith}
+use Rattle.std.proofs.Common.{◌≡◌, ℕ, suc, ◌+◌, ◌<◌, ◌≤◌, cond, List, map, length, get_or, drop, Some, None, sym, ap, ◌∙◌, add-one, arith}
 use lib.ListN.{length-map}
 use Rattle.std.proofs.lemmas.List.{at_drop_all, at_drop_more, get_or-map}
 use Rattle.runs.specs.Checks as checks
@@ -9,7 +9,6 @@ use Rattle.runs.specs.Pairs.{Pair, disagree_at}
 use Rattle.runs.specs.Walks.{moves_below}
 use Rattle.walk.specs.declared.pair.CodePair.{CodePair}
 use Rattle.walk.specs.declared.verdict.Finding.{Finding}
-use Rattle.walk.specs.declared.verdict.Finding.TheVariants.{MasksFail, StepFails}
 use Rattle.walk.specs.Checked.{told}
 use Rattle.walk.specs.Failing.{failing_at}
 use Rattle.walk.specs.Records.{pair_of}
@@ -17,20 +16,6 @@ use Rattle.walk.specs.Records.{pair_of}
 -- What stands for a pair past the end.
 abbrev no_pair : CodePair
 no_pair = record { left = 0; right = 0 }
-
--- What fails at pair i, by its two tests, is what is found from it on,
-fails_by : (i : ℕ) (apart leads : Bool) (rest : checks.Finding) (x : Finding) → Some x ≡ cond apart (Some (MasksFail i)) (cond leads None (Some (StepFails i)))
-    → x ≡ told (cond apart (checks.masks_fail i) (cond leads rest (checks.step_fails i)))
-fails_by i true leads rest x e = cc
-fails_by i false true rest x e = absurd (let z : ◌≡◌ {A = ℕ} 0 1 = cc in omega arith)
-fails_by i false false rest x e = cc
-
--- and where nothing does, the rest is.
-onward_by : (i : ℕ) (apart leads : Bool) (rest : checks.Finding) → None ≡ cond apart (Some (MasksFail i)) (cond leads None (Some (StepFails i)))
-    → rest ≡ cond apart (checks.masks_fail i) (cond leads rest (checks.step_fails i))
-onward_by i true leads rest e = absurd (let z : ◌≡◌ {A = ℕ} 0 1 = cc in omega arith)
-onward_by i false true rest e = refl
-onward_by i false false rest e = absurd (let z : ◌≡◌ {A = ℕ} 0 1 = cc in omega arith)
 
 module _ (f g : FlowMeaning) (list : List CodePair) where
   -- The list, as it is checked.
@@ -65,8 +50,11 @@ module _ (f g : FlowMeaning) (list : List CodePair) where
 
     -- What fails at it is what is found,
     pub fails : (x : Finding) → Some x ≡ failing_at f g pairs i p → x ≡ told whole
-    fails x e = fails_by i (disagree_at f g p) (leads_into f g pairs p (moves_below f.situations f.actions)) (from (suc i)) x e ∙ ap told opened
+    fails x e = let o = opened in grind arith
 
     -- and where nothing does, the next pair is to be examined.
     pub onward : None ≡ failing_at f g pairs i p → from (i + 1) ≡ whole
-    onward e = ap from (add-one i) ∙ onward_by i (disagree_at f g p) (leads_into f g pairs p (moves_below f.situations f.actions)) (from (suc i)) e ∙ opened
+    onward e =
+        let o = opened in
+        let rest : from (suc i) ≡ whole = grind arith in
+        ap from (add-one i) ∙ rest

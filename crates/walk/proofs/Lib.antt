@@ -3,6 +3,7 @@ pub mod Found
 pub mod Leading
 pub mod Rows
 pub mod Going
+pub mod Alike
 pub mod Backward
 pub mod Telling
 pub mod Examined

@@ -1,7 +1,7 @@
 -- What the answers of judge and check say of runs: from the theorems on the walk.
-use Rattle.std.proofs.Common.{◌≡◌, ℕ, ◌-◌, ◌≤◌, Bool, true, false, cond, ◌&&◌, eqb, ltb, List, [], ◌∷◌, ◌++◌, map, length, take, drop, Ok, Err, Result, sym, refl, ap, ◌∙◌, subst, arith}
-use Rattle.std.proofs.lemmas.List.{length-map, length-replicate, take_all, take-append-le}
-use Rattle.std.proofs.lemmas.Bool.{cond-false, cond-true, eqb-true, le-ltb, ltb-false}
+use Rattle.std.proofs.Common.{◌≡◌, ℕ, ◌≤◌, Bool, true, false, cond, ltb, List, [], ◌∷◌, ◌++◌, map, length, take, drop, Ok, Err, Result, sym, refl, ap, ◌∙◌, subst, arith}
+use Rattle.std.proofs.lemmas.List.{length-map, length-replicate, take_at}
+use Rattle.std.proofs.lemmas.Bool.{cond-false, cond-true, le-ltb, ltb-false}
 use Rattle.runs.proofs.Closed.{passing_shows_same_runs}
 use Rattle.runs.proofs.Different.{different_shows_a_shortest_run}
 use Rattle.runs.proofs.Equal.{equal_means_same_runs}
@@ -27,14 +27,7 @@ use Rattle.walk.specs.declared.verdict.Side.{Side}
 use Rattle.walk.specs.declared.verdict.Side.TheVariants.{Left, Right}
 use Rattle.walk.specs.declared.verdict.Verdict.{Verdict}
 use Rattle.walk.specs.declared.verdict.Verdict.TheVariants.{Different}
-
--- Flows that are alike have the same counts.
-alike_situations : (f g : FlowMeaning) → alike f g ≡ true → f.situations ≡ g.situations
-alike_situations f g h = eqb-true f.situations g.situations (left (eqb f.situations g.situations) (eqb f.actions g.actions) h)
-  where
-    left : (x y : Bool) → (x && y) ≡ true → x ≡ true
-    left true y e = refl
-    left false y e = e
+use Rattle.walk.proofs.Alike.{alike_situations}
 
 -- The pairs of what the walk listed, read off its records.
 listed_pairs : (list : List Listed) → map (λ (entry : PairRecord). pair_of entry.pair) (map record_of list) ≡ map (λ (entry : Listed). entry.pair) list
@@ -43,9 +36,7 @@ listed_pairs (entry ∷ list) = ap (λ (pairs : List Pair). entry.pair ∷ pairs
 
 -- The first records of the table are those of the list.
 first_records : (size count : ℕ) (list : List Listed) → length list ≡ count → take count (table_of size list) ≡ map record_of list
-first_records size count list long =
-    let count-is : count ≡ length (map record_of list) = sym long ∙ sym (length-map list record_of) in
-    take-append-le count (map record_of list) (zero_table (size - length list)) (omega arith) ∙ take_all count (map record_of list) (omega arith)
+first_records size count list long = take_at (map record_of list) _ count (length-map list record_of ∙ long)
 
 -- A list within the limit for which the finding is that it passes, passes the check.
 passes_checked : (f g : FlowMeaning) (list : List Pair) → alike f g ≡ true → length list ≤ 2048 → checks.finding f.situations f.actions f g list ≡ checks.passes
@@ -82,9 +73,8 @@ different_says : (f g : FlowMeaning) → Lawful f → Lawful g → (room i : ℕ
 different_says f g lf lg room i buffer like is =
     let run = run_at f g i in
     let shows = different_shows_a_shortest_run room i f g lf lg (alike_situations f g like) is in
-    let long = written_length run in
     let front : take (bytes_of (actions_of run)) (written run ++ drop (bytes_of (actions_of run)) buffer) ≡ written run =
-    take-append-le (bytes_of (actions_of run)) (written run) (drop (bytes_of (actions_of run)) buffer) (omega arith) ∙ take_all (bytes_of (actions_of run)) (written run) (omega arith) in
+    take_at (written run) _ (bytes_of (actions_of run)) (written_length run) in
     let sides = side_says f g buffer run (allows f run) (allows g run) refl refl shows.parts in
     record {
       run = run;
@@ -142,17 +132,14 @@ judged_says f g lf lg table after buffer written' r answer tables buffers =
     }
 
 -- Only a list for which the finding is that it passes, passes the check.
-told_passes : (found : checks.Finding) → told found ≡ Passes → found ≡ checks.passes
-told_passes checks.passes e = refl
-told_passes checks.start_missing e = let z : ◌≡◌ {A = ℕ} 0 1 = cc in absurd (omega arith)
-told_passes (checks.masks_fail i) e = let z : ◌≡◌ {A = ℕ} 0 1 = cc in absurd (omega arith)
-told_passes (checks.step_fails i) e = let z : ◌≡◌ {A = ℕ} 0 1 = cc in absurd (omega arith)
-
 passed_by : (found : checks.Finding) (large like : Bool) → ◌≡◌ {A = Result Finding WalkFault} (cond large (Err TableTooLarge) (cond like (Ok (told found)) (Err Unlike))) (Ok Passes)
     → found ≡ checks.passes
-passed_by found true like e = let z : ◌≡◌ {A = ℕ} 0 1 = cc in absurd (omega arith)
-passed_by found false false e = let z : ◌≡◌ {A = ℕ} 0 1 = cc in absurd (omega arith)
-passed_by found false true e = told_passes found cc
+passed_by found true like e = cc
+passed_by found false false e = cc
+passed_by checks.passes false true e = refl
+passed_by checks.start_missing false true e = cc
+passed_by (checks.masks_fail i) false true e = cc
+passed_by (checks.step_fails i) false true e = cc
 
 -- A list convinces exactly when runs agree.
 pub list_convinces : (f g : FlowMeaning) → Lawful f → Lawful g → AListConvinces f g

@@ -1,10 +1,9 @@
 -- The run that is shown, read off the table: its moves, its last situation and the side that allows it.
-use Rattle.std.proofs.Common.{◌≡◌, ℕ, ◌-◌, ◌^◌, ◌<◌, ◌≤◌, true, eqb, List, map, length, get_or, sym, ap, ◌∙◌, subst, arith, length-append}
+use Rattle.std.proofs.Common.{◌≡◌, ℕ, ◌-◌, ◌^◌, ◌<◌, ◌≤◌, true, List, map, length, get_or, sym, ap, ◌∙◌, subst, arith, length-append}
 use lib.Bits.{bit_xor}
 use lib.Count.{count_trailing_zeros}
 use lib.ListN.{length-replicate, get_or-append}
 use Rattle.std.proofs.lemmas.List.{get_or-map, length-map}
-use Rattle.std.proofs.lemmas.Bool.{and_parts, eqb-true}
 use Rattle.masks.specs.Bits.{bit}
 use Rattle.runs.specs.Flows.{FlowMeaning, Lawful, allows}
 use Rattle.runs.specs.Tracing.{lowest_apart}
@@ -20,6 +19,7 @@ use Rattle.walk.specs.Judged.{alike, run_at}
 use Rattle.walk.specs.Records.{listed_of, pair_of, record_of, zero_record, zero_table}
 use Rattle.walk.specs.Shown.{EndedAt}
 use Rattle.walk.specs.Traced.{MetEarlier, moves_to}
+use Rattle.walk.proofs.Alike.{alike_situations}
 
 -- The zeros that end `a ^ b` count up to the lowest situation that only one of two masks has, where they differ.
 trailing_in_64 : (n a b : ℕ) → n ≤ 64 → a < 2 ^ n → b < 2 ^ n → (a ≡ b → ⊥) → count_trailing_zeros 64 (bit_xor a b) ≡ lowest_apart n a b
@@ -84,7 +84,7 @@ module _ (f g : FlowMeaning) (table : List PairRecord) (i : ℕ) (ended : EndedA
 
     last : count_trailing_zeros 64 (bit_xor a b) ≡ (run_at f g i).last
     last =
-        let as_many : f.situations ≡ g.situations = eqb-true _ _ (and_parts (eqb f.situations g.situations) _ compared).0 in
+        let as_many : f.situations ≡ g.situations = alike_situations f g compared in
         let within : g.accept (at list i).right < 2 ^ f.situations = subst (λ n. g.accept (at list i).right < 2 ^ n) (sym as_many) (right.accepts_situations (at list i).right) in
         (λ j. count_trailing_zeros 64 (bit_xor (mask_left j) (mask_right j)))
         ∙ trailing_in_64 f.situations _ _ left.most (left.accepts_situations (at list i).left) within (masks_differ f g (at list i) says.2)

@@ -28,10 +28,10 @@ impl<F: Flow, G: Flow> Sides<'_, F, G> {
     fn leads_in(&self, list: &[CodePair], pair: CodePair, situation: u8) -> bool
         ensures leads { result ≡ leads_into (F.Flow.meaning self.now.left.now) (G.Flow.meaning self.now.right.now) (map pair_of list.now) (pair_of pair) (moves_in situation (F.Flow.meaning self.now.left.now).actions) }
     {
-        (0..self.left.actions()).all(|action| is_among(
-            self.next_pair(pair, situation, action),
-            list,
-        ))
+        (0..self.left.actions()).all(|action| {
+            let next = self.next_pair(pair, situation, action);
+            is_among(next, list)
+        })
     }
 
     // Whether each move leads from the pair into the list.

@@ -14,7 +14,8 @@ use crate::verdict::Verdict;
 use crate::walking::walk;
 use flows::Flow;
 
-// The work of `judge`: its checks in their order, the walk, and the answer that the walk's ending gets.
+// The work of `judge`: its checks in their order, the walk, and the answer that the walk's ending gets. It stands apart, since
+// what `judge` says of runs follows from these three clauses together, at whichever return.
 fn compare<F: Flow, G: Flow>(
     left: &F,
     right: &G,

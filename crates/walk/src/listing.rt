@@ -5,6 +5,7 @@ ghost use Rattle.walk.specs.Records.{zero_table};
 use crate::record::PairRecord;
 
 // A table in which the first records are used and the others hold zeros.
+// The table is lent by the caller, so the count of used records stands beside it.
 #[derive(Drop)]
 pub(crate) struct Listing<'t> {
     pub(crate) table: &'t mut [PairRecord],

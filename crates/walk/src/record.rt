@@ -3,7 +3,8 @@ use crate::pair::CodePair;
 
 // A pair that the walk put down, with the number of the pair that it was first met from and the situation and action
 // that led to it. The start has zeros there.
-#[derive(Clone, Copy, PartialEq, Eq, Debug)]
+// Records name each other by number, since the table is memory of the caller, who reads them afterwards.
+#[derive(Clone, Copy, PartialEq, Eq, Default, Debug)]
 pub struct PairRecord {
     pub pair: CodePair,
     pub from: usize,

@@ -3,12 +3,11 @@ ghost use Rattle.std.specs.Prelude.{◌≡◌, ◌≤◌, true, length};
 ghost use Rattle.runs.specs.Walks.{different};
 ghost use Rattle.walk.specs.Judged.{alike, answer_of, buffer_by};
 ghost use Rattle.walk.specs.Shown.{EndedAt};
-ghost use Rattle.walk.specs.Traced.{MetEarlier};
 
 use crate::fault::WalkFault;
 use crate::record::PairRecord;
 use crate::sides::Sides;
-use crate::tracing::{actions_to, write_run};
+use crate::trail::Trail;
 use crate::verdict::{Side, Verdict};
 use flows::Flow;
 
@@ -21,21 +20,21 @@ pub(crate) fn show<F: Flow, G: Flow>(
 ) -> Result<Verdict, WalkFault>
     requires compared { alike (F.Flow.meaning sides.now.left.now) (G.Flow.meaning sides.now.right.now) ≡ true }
     requires ended { EndedAt (F.Flow.meaning sides.now.left.now) (G.Flow.meaning sides.now.right.now) table.now i }
-    requires met_earlier { MetEarlier table.now i }
     requires few { length table.now ≤ 2048 }
     ensures answer { result ≡ answer_of (F.Flow.meaning sides.now.left.now) (G.Flow.meaning sides.now.right.now) (length run.old) (different i) }
     ensures run_afterwards { run.new ≡ buffer_by (F.Flow.meaning sides.now.left.now) (G.Flow.meaning sides.now.right.now) run.old (different i) }
 {
-    let actions = actions_to(table, i);
+    let trail = Trail { table, at: i };
+    let actions = trail.actions();
     let wanted = 2 * actions + 1;
     if run.len() < wanted {
         return Err(WalkFault::BufferTooShort(wanted));
     }
     let pair = table[i].pair;
     let mask = sides.left.accept(pair.left);
-    // The lowest situation that only one of the masks has.
+    // The lowest situation that only one of the masks has. It is at most 64: a u8 holds it, and try_from would have an error that never is.
     let last = (mask ^ sides.right.accept(pair.right)).trailing_zeros() as u8;
-    write_run(table, i, actions, last, run);
+    trail.write_run(actions, last, run);
     let side = if masks::has(mask, last) {
         Side::Left
     } else {

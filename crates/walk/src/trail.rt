@@ -5,7 +5,7 @@ ghost use Rattle.walk.specs.Traced.{MetEarlier, way_back};
 use crate::record::PairRecord;
 
 // The records from one on back to the start, which is left out.
-#[derive(Drop)]
+#[derive(Clone, Copy)]
 pub(crate) struct Trail<'a> {
     pub(crate) table: &'a [PairRecord],
     // The record that is next.

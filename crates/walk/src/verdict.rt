@@ -1,4 +1,4 @@
-// What the walk and the check answer.
+// What the walk and the check answer. No answer of theirs is a refusal, so none is an Err that `?` would pass on.
 
 // A side of a comparison.
 #[derive(Clone, Copy, PartialEq, Eq, Debug)]

@@ -22,9 +22,7 @@ pub(crate) fn walk<F: Flow, G: Flow>(
     let mut listing = Listing { table, used: 0 };
     listing.put_down(PairRecord {
         pair: sides.start_pair(),
-        from: 0,
-        situation: 0,
-        action: 0,
+        ..PairRecord::default()
     })?;
     // The list grows while it is walked, so its pairs are asked for by their numbers, and no iterator can lend them.
     let mut i = 0;
