@@ -48,7 +48,7 @@ PartReads from goes_on more means depth before signs e after =
     → from f means levels (infront signs rest) (ready b s before) ≡ Ok (grown e p.mark p.ahead p.machine)
 
 -- A number above a bound is a successor.
-by_suc : (P : ℕ → Type 0) (bound : ℕ) → ((f : ℕ) → bound ≤ f → P (suc f)) → (f : ℕ) → bound < f → P f
+pub by_suc : (P : ℕ → Type 0) (bound : ℕ) → ((f : ℕ) → bound ≤ f → P (suc f)) → (f : ℕ) → bound < f → P f
 by_suc P bound h zero lt = absurd (omega arith)
 by_suc P bound h (suc f) lt = h f (omega arith)
 

@@ -1,5 +1,5 @@
 -- Enough fuel: each part that was built leaves fewer signs ahead, so that every later call has enough fuel too.
-use Rattle.std.proofs.Common.{◌≡◌, ℕ, zero, suc, ◌+◌, ◌-◌, ◌<◌, ◌≤◌, Bool, true, false, cond, ◌⊎◌, List, [], ◌∷◌, ◌++◌, length, Some, None, Ok, Err, Option, Result, refl, ap, ◌∙◌, subst, inl, inr, arith}
+use Rattle.std.proofs.Common.{◌≡◌, ℕ, zero, suc, ◌+◌, ◌-◌, ◌<◌, ◌≤◌, Bool, true, false, cond, ◌⊎◌, List, [], ◌∷◌, ◌++◌, length, Some, None, Ok, Err, Option, Result, refl, ap, ◌∙◌, subst, inl, inr, arith, rules}
 use Rattle.signs.specs.Signs.{Mark, named, skipping, stopping, opening, closing, negating, repeating, following, choosing}
 use Rattle.kat.specs.Terms.{Term, chain, choice}
 use Rattle.grammar.specs.Derivations.{Chain, Step, Unit', a_test, an_action, in_brackets, more_steps, negated, one_step, repeated, the_skip, the_stop, unit}
@@ -19,12 +19,7 @@ some_joined (x ∷ xs) y ys = omega arith
 
 -- Nothing is derived from no signs.
 unit_some : {means : Meaning} {depth before after : ℕ} {signs : List Mark} {e : Term} → Unit' means depth before signs e after → 0 < length signs
-unit_some (a_test name place t e) = omega arith
-unit_some (an_action name place a e) = omega arith
-unit_some (the_skip place) = omega arith
-unit_some (the_stop place) = omega arith
-unit_some (negated place u t) = omega arith
-unit_some (in_brackets p q c) = omega arith
+unit_some u = search rules
 
 step_some : {means : Meaning} {depth before after : ℕ} {signs : List Mark} {e : Term} → Step means depth before signs e after → 0 < length signs
 step_some (unit u) = unit_some u
@@ -69,15 +64,7 @@ module _ (means : Meaning) (inner inner' : Units) (whole whole' : Parts) where
 
   unit_same_at : (x : Mark) (ahead : Ahead) (m : Machine) → inner ahead m ≡ inner' ahead m → whole ahead m ≡ whole' ahead m
       → unit_at means inner whole (Some x) ahead m ≡ unit_at means inner' whole' (Some x) ahead m
-  unit_same_at (named name place) ahead m i w = refl
-  unit_same_at (skipping place) ahead m i w = refl
-  unit_same_at (stopping place) ahead m i w = refl
-  unit_same_at (opening place) ahead m i w = ap (λ v. bind_grown v (closed_unit place)) w
-  unit_same_at (closing place) ahead m i w = refl
-  unit_same_at (negating place) ahead m i w = ap (λ v. bind_built v (negated_unit place)) i
-  unit_same_at (repeating place) ahead m i w = refl
-  unit_same_at (following place) ahead m i w = refl
-  unit_same_at (choosing place) ahead m i w = refl
+  unit_same_at x ahead m i w = search rules
 
   unit_same : (levels : ℕ) (ahead : Ahead) (m : Machine)
       → ((rest : Ahead) (m : Machine) → signs_left rest < signs_left ahead → (inner rest m ≡ inner' rest m) × (whole rest m ≡ whole' rest m)) → Agree (pull means levels ahead m)

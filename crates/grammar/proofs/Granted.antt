@@ -1,6 +1,6 @@
 -- What is granted is a rule, and read to its end.
 use Rattle.std.proofs.Common.{◌≡◌, ℕ, ◌+◌, ◌*◌, true, false, List, [], ◌∷◌, Some, Ok, Err, Result, sym, refl, ap, ◌∙◌, subst, arith}
-use Rattle.signs.specs.Signs.{Mark, named, skipping, stopping, opening, closing, negating, repeating, following, choosing}
+use Rattle.signs.specs.Signs.{Mark}
 use Rattle.signs.specs.declared.fault.SignFault.{SignFault}
 use Rattle.kat.specs.Terms.{Term}
 use Rattle.grammar.specs.Derivations.{Rule}
@@ -13,15 +13,7 @@ use Rattle.grammar.proofs.Sound.{builders_sound}
 
 -- With no bracket open, each sign that can follow a unit goes on with a choice.
 none_ends : (x : Mark) → follows 0 x ≡ true → choice_goes_on (Some x) ≡ false → ⊥
-none_ends (named name place) e f = grind arith
-none_ends (skipping place) e f = grind arith
-none_ends (stopping place) e f = grind arith
-none_ends (opening place) e f = grind arith
-none_ends (closing place) e f = grind arith
-none_ends (negating place) e f = grind arith
-none_ends (repeating place) e f = grind arith
-none_ends (following place) e f = grind arith
-none_ends (choosing place) e f = grind arith
+none_ends x e f = grind arith
 
 -- So a whole choice has the end behind it.
 end_behind : (means : Meaning) (levels : ℕ) (rest : Ahead) (read : List Mark) (after : ℕ) (g : Grown)

@@ -1,7 +1,7 @@
 -- What a sign that was judged and taken tells: of the state in front of it, and of the state behind it.
-use Rattle.std.proofs.Common.{◌≡◌, ℕ, Bool, true, false, not, ◌&&◌, eqb, Some, None, Ok, Err, Option, Result, refl, subst, arith}
+use Rattle.std.proofs.Common.{◌≡◌, ℕ, Bool, true, false, not, ◌&&◌, eqb, Some, None, Ok, Err, Option, Result, refl, subst, arith, rules}
 use Rattle.std.proofs.lemmas.Bool.{eqb-false, not-false}
-use Rattle.signs.specs.Signs.{Mark, named, skipping, stopping, opening, closing, negating, repeating, following, choosing, stands_at}
+use Rattle.signs.specs.Signs.{Mark, closing, repeating, following, choosing, stands_at}
 use Rattle.grammar.specs.Reading.{Ahead, sign, over, faulty, Machine, Pulled, is_bracket, fits, opens, take, judge, judged, end_fits, pull}
 use Rattle.grammar.specs.Reading.{is_repeating, is_following, is_choosing, is_closing}
 use Rattle.grammar.specs.Theorems.{Meaning}
@@ -55,49 +55,13 @@ was_pulled means levels (faulty fault) m p x e s = absurd (err_not_ok e)
 
 -- What the tests of a sign tell.
 pub is_repeating_lem : (next : Option Mark) → is_repeating next ≡ true → (place : ℕ) × (next ≡ Some (repeating place))
-is_repeating_lem None e = absurd (grind arith)
-is_repeating_lem (Some (named name place)) e = absurd (grind arith)
-is_repeating_lem (Some (skipping place)) e = absurd (grind arith)
-is_repeating_lem (Some (stopping place)) e = absurd (grind arith)
-is_repeating_lem (Some (opening place)) e = absurd (grind arith)
-is_repeating_lem (Some (closing place)) e = absurd (grind arith)
-is_repeating_lem (Some (negating place)) e = absurd (grind arith)
-is_repeating_lem (Some (repeating place)) e = (place, refl)
-is_repeating_lem (Some (following place)) e = absurd (grind arith)
-is_repeating_lem (Some (choosing place)) e = absurd (grind arith)
+is_repeating_lem next e = search rules
 
 pub is_following_lem : (next : Option Mark) → is_following next ≡ true → (place : ℕ) × (next ≡ Some (following place))
-is_following_lem None e = absurd (grind arith)
-is_following_lem (Some (named name place)) e = absurd (grind arith)
-is_following_lem (Some (skipping place)) e = absurd (grind arith)
-is_following_lem (Some (stopping place)) e = absurd (grind arith)
-is_following_lem (Some (opening place)) e = absurd (grind arith)
-is_following_lem (Some (closing place)) e = absurd (grind arith)
-is_following_lem (Some (negating place)) e = absurd (grind arith)
-is_following_lem (Some (repeating place)) e = absurd (grind arith)
-is_following_lem (Some (following place)) e = (place, refl)
-is_following_lem (Some (choosing place)) e = absurd (grind arith)
+is_following_lem next e = search rules
 
 pub is_choosing_lem : (next : Option Mark) → is_choosing next ≡ true → (place : ℕ) × (next ≡ Some (choosing place))
-is_choosing_lem None e = absurd (grind arith)
-is_choosing_lem (Some (named name place)) e = absurd (grind arith)
-is_choosing_lem (Some (skipping place)) e = absurd (grind arith)
-is_choosing_lem (Some (stopping place)) e = absurd (grind arith)
-is_choosing_lem (Some (opening place)) e = absurd (grind arith)
-is_choosing_lem (Some (closing place)) e = absurd (grind arith)
-is_choosing_lem (Some (negating place)) e = absurd (grind arith)
-is_choosing_lem (Some (repeating place)) e = absurd (grind arith)
-is_choosing_lem (Some (following place)) e = absurd (grind arith)
-is_choosing_lem (Some (choosing place)) e = (place, refl)
+is_choosing_lem next e = search rules
 
 pub is_closing_lem : (next : Option Mark) → is_closing next ≡ true → (place : ℕ) × (next ≡ Some (closing place))
-is_closing_lem None e = absurd (grind arith)
-is_closing_lem (Some (named name place)) e = absurd (grind arith)
-is_closing_lem (Some (skipping place)) e = absurd (grind arith)
-is_closing_lem (Some (stopping place)) e = absurd (grind arith)
-is_closing_lem (Some (opening place)) e = absurd (grind arith)
-is_closing_lem (Some (closing place)) e = (place, refl)
-is_closing_lem (Some (negating place)) e = absurd (grind arith)
-is_closing_lem (Some (repeating place)) e = absurd (grind arith)
-is_closing_lem (Some (following place)) e = absurd (grind arith)
-is_closing_lem (Some (choosing place)) e = absurd (grind arith)
+is_closing_lem next e = search rules

@@ -1,7 +1,6 @@
 -- The actions that a reading counts are those of the term that it builds.
-use Rattle.std.proofs.Common.{◌≡◌, ℕ, ◌+◌, true, List, Ok, Err, Result, sym, refl, ap, ◌∙◌, arith}
-use Rattle.std.proofs.lemmas.Bool.{false≢true}
-use Rattle.signs.specs.Signs.{Mark, named, skipping, stopping, opening, closing, negating, repeating, following, choosing}
+use Rattle.std.proofs.Common.{◌≡◌, ℕ, ◌+◌, true, List, Ok, Err, Result, sym, refl, ap, ◌∙◌, arith, rules}
+use Rattle.signs.specs.Signs.{Mark}
 use Rattle.grammar.specs.Derivations.{Choice, one_chain, more_chains, Chain, one_step, more_steps, Step, unit, repeated}
 use Rattle.grammar.specs.Derivations.{Unit', a_test, an_action, the_skip, the_stop, negated, in_brackets}
 use Rattle.grammar.specs.Reading.{Ahead, Grown, Machine, Pulled, choice_from, end_fits, faulty, fits, following', judge, judged, over, pull, sign, take}
@@ -38,15 +37,7 @@ mutual
 
 -- behind a unit no name comes, so that a sign that is taken there counts no action
 taken_behind : (means : Meaning) (x : Mark) (a b : Machine) → a.wants ≡ following' → fits a.wants a.brackets x ≡ true → take means x a ≡ Ok b → b.actions ≡ a.actions
-taken_behind means (named name place) a b w fit e = absurd (false≢true (sym (ap (λ w. fits w a.brackets (named name place)) w) ∙ fit))
-taken_behind means (skipping place) a b w fit e = ap (λ m. m.actions) (sym (ok_same e))
-taken_behind means (stopping place) a b w fit e = ap (λ m. m.actions) (sym (ok_same e))
-taken_behind means (opening place) a b w fit e = ap (λ m. m.actions) (sym (ok_same e))
-taken_behind means (closing place) a b w fit e = ap (λ m. m.actions) (sym (ok_same e))
-taken_behind means (negating place) a b w fit e = ap (λ m. m.actions) (sym (ok_same e))
-taken_behind means (repeating place) a b w fit e = ap (λ m. m.actions) (sym (ok_same e))
-taken_behind means (following place) a b w fit e = ap (λ m. m.actions) (sym (ok_same e))
-taken_behind means (choosing place) a b w fit e = ap (λ m. m.actions) (sym (ok_same e))
+taken_behind means x a b w fit e = search rules
 
 pulled_after : (means : Meaning) (levels : ℕ) (rest : Ahead) (a : Machine) (p : Pulled) → a.wants ≡ following' → pull means levels rest a ≡ Ok p → p.machine.actions ≡ a.actions
 pulled_after means levels (sign x rest) a p w e = go (judge means levels x a) refl e
