@@ -11,16 +11,11 @@ use flows::Flow;
 fn union_of(row: &[u64; PLACES], code: u64) -> u64
     ensures { (q : ℕ) → bit q result ≡ reaches (λ p. slice_index row.now p) code q }
 {
-    // Behind the last place that is marked there is nothing to join in.
-    let reach = u64::BITS - code.leading_zeros();
-    let masks = &row[..reach as usize];
     let mut union = 0;
     let mut rest = code;
-    for mask in masks {
-        if rest % 2 == 1 {
-            union |= *mask;
-        }
-        rest /= 2;
+    while rest != 0 {
+        union |= row[rest.trailing_zeros() as usize];
+        rest &= rest - 1;
     }
     union
 }

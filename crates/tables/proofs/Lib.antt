@@ -10,4 +10,5 @@ pub mod Marked
 pub mod Roots
 pub mod Filled
 pub mod Answers
+pub mod Clearing
 pub mod Tables
