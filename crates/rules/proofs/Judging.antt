@@ -7,7 +7,7 @@ use Rattle.grammar.specs.declared.fault.RuleFault.{RuleFault}
 use Rattle.grammar.specs.declared.fault.RuleFault.TheVariants.{Unfit}
 use Rattle.grammar.proofs.Judging.{was_taken}
 use Rattle.grammar.proofs.Results.{err_not_ok, ok_same, through_test}
-use Rattle.rules.specs.Machines.{outcome}
+use Rattle.rules.specs.Machines.{end_outcome, outcome}
 use Rattle.rules.specs.Readers.{Moved, Standing, bracket_in, close_in, count_in, level_in, named_by, sign_in}
 use Rattle.rules.specs.declared.machine.Machine as code
 
@@ -58,3 +58,11 @@ judge_by_name means levels m a = search rules
 pub sign_judged : (means : List ℕ → Option Named) (levels : ℕ) (m : Mark) (a : Machine) (o : Option Named) (r : Result (Unit {0}) RuleFault) (behind : code.Machine)
     → o ≡ named_by means m → outcome r behind ≡ judge (λ _. o) levels m a → judge means levels m a ≡ outcome r behind
 sign_judged means levels m a o r behind n j = sym (judge_by_name means levels m a) ∙ ap (λ o. judge (λ _. o) levels m a) (sym n) ∙ sym j
+
+-- the end, where it cannot come
+pub end_refused : (place : ℕ) (a : Machine) (means : List ℕ → Option Named) (levels : ℕ) (fault : RuleFault) → end_outcome place a ≡ Err fault → pull means levels (over place) a ≡ Err fault
+end_refused place a means levels fault e = go (end_fits a) (record { mark = None; ahead = over place; machine = a }) e
+  where
+    go : (b : Bool) (p : Pulled) → cond {A = Result (Unit {0}) RuleFault} b (Ok tt) (Err (Unfit place)) ≡ Err fault → cond {A = Result Pulled RuleFault} b (Ok p) (Err (Unfit place)) ≡ Err fault
+    go true p e = absurd (err_not_ok (sym e))
+    go false p e = cc

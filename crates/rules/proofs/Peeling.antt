@@ -7,7 +7,7 @@ use Rattle.signs.specs.declared.fault.SignFault.{SignFault}
 use Rattle.signs.specs.declared.reader.SignReader.{SignReader}
 use Rattle.signs.specs.declared.sign.Sign.{Sign}
 use Rattle.signs.proofs.Steps.{Steps, steps}
-use Rattle.grammar.specs.Reading.{sign}
+use Rattle.grammar.specs.Reading.{faulty, over, sign}
 use Rattle.rules.specs.Aheads.{ahead_of, ahead_to, then_ahead}
 
 -- a sign ends behind the place that it was looked for at
@@ -48,6 +48,12 @@ peel end text place r e =
 module _ (end : ℕ) (a b : SignReader) (r : Result (Option Sign) SignFault) (keeps : text_of b ≡ text_of a) (gives : marked r ≡ next_of a) (stands : place_in b ≡ place_after (place_in a) (next_of a)) where
   there : (place : ℕ) → place_in b ≡ place → ahead_of end b ≡ ahead_to end (length (text_of a) - place) (text_of a) place
   there place e = ap (λ text. ahead_to end (length text - place_in b) text (place_in b)) keeps ∙ ap (λ p. ahead_to end (length (text_of a) - p) (text_of a) p) e
+
+  pub at_fault : (fault : SignFault) → r ≡ Err fault → ahead_of end a ≡ faulty fault
+  at_fault fault e = peel end (text_of a) (place_in a) (Err fault) (sym gives ∙ ap marked e)
+
+  pub at_end : r ≡ Ok None → ahead_of end a ≡ over end
+  at_end e = peel end (text_of a) (place_in a) (Ok None) (sym gives ∙ ap marked e)
 
   pub at_sign : (s : Sign) → r ≡ Ok (Some s) → ahead_of end a ≡ sign (mark_of s) (ahead_of end b)
   at_sign s e =

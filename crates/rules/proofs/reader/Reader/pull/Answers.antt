@@ -1,4 +1,4 @@
--- A sign that is refused, or taken, by the sign reader's next.
+-- The ways that a pull ends: a fault of the sign reader, the end that cannot come, a sign that is refused or taken.
 use Rattle.std.proofs.Common.{Some, Ok, Err, sym, ap, ◌∙◌}
 use Rattle.std.proofs.lemmas.Result.{err_from_is_err_and}
 use Rattle.signs.specs.Reader.{mark_of}
@@ -6,9 +6,28 @@ use Rattle.grammar.specs.Reading.{judged, pull}
 use Rattle.rules.specs.Machines.{machine_of, outcome}
 use Rattle.rules.specs.Readers.{means_of, standing}
 use Rattle.rules.specs.Aheads.{ahead_of}
-use Rattle.rules.proofs.Judging.{pull_moves, sign_judged}
-use Rattle.rules.proofs.Peeling.{at_sign}
+use Rattle.rules.proofs.Judging.{end_refused, pull_moves, sign_judged}
+use Rattle.rules.proofs.Peeling.{at_end, at_fault, at_sign}
 use Rattle.rules.proofs.reader.Reader.pull.Goals as goal
+
+pub returns-in_err-sign-clause-as_defined : goal.returns-in_err-sign-clause-as_defined
+returns-in_err-sign-clause-as_defined c =
+    let self = c.args.self.now in
+    let next = c.next.ensures in
+    let p = err_from_is_err_and c.from_residual.result c.from_residual.ensures.1 in
+    let at = at_fault self.end self.signs c.next.new.self c.next.result next.keeps_the_text next.gives_the_next_sign next.stands_behind_the_sign _ c.in_err-sign.was in
+    let is = ap (λ ahead. pull (means_of self.names.now) c.args.levels ahead (machine_of self.machine)) at ∙ ap Err (sym p.2) in
+    rw p.1 (sym is)
+
+pub returns-in_err-end-clause-as_defined : goal.returns-in_err-end-clause-as_defined
+returns-in_err-end-clause-as_defined c =
+    let self = c.args.self.now in
+    let next = c.next.ensures in
+    let means = means_of self.names.now in
+    let p = err_from_is_err_and c.from_residual-in_err-end.result c.from_residual-in_err-end.ensures.1 in
+    let at = at_end self.end self.signs c.next.new.self c.next.result next.keeps_the_text next.gives_the_next_sign next.stands_behind_the_sign (c.in_ok-sign.was ∙ ap Ok c.in_default.is) in
+    let is = ap (λ ahead. pull means c.args.levels ahead (machine_of self.machine)) at ∙ end_refused self.end (machine_of self.machine) means c.args.levels _ (sym c.end.ensures ∙ c.in_err-end.was) ∙ ap Err (sym p.2) in
+    rw p.1 (sym is)
 
 pub returns-in_err-judge-clause-as_defined : goal.returns-in_err-judge-clause-as_defined
 returns-in_err-judge-clause-as_defined c =
