@@ -1,9 +1,6 @@
 -- The flow that is prepared is that of the rule's places.
 use Rattle.std.proofs.Common.{◌≡◌, ℕ, ◌≤◌, length, ap, ◌∙◌, subst, arith}
-use Rattle.sheet.specs.Held.{names_of}
 use Rattle.sheet.specs.Laid.{LaidOut}
-use Rattle.sheet.specs.declared.names.Names.{Names}
-use Rattle.sheet.proofs.Additions.{as_long}
 use Rattle.kat.specs.Places.{place_flow}
 use Rattle.kat.specs.Terms.{Term}
 use Rattle.runs.specs.Flows.{Lawful}
@@ -11,10 +8,6 @@ use Rattle.tables.specs.Tables.{SameOnCodes, TablesOf, table_flow}
 use Rattle.tables.proofs.Tables.{same_numbered, same_on_codes, same_runs}
 use Rattle.vocabulary.specs.Meaning.{VocabularyMeaning}
 use Rattle.places.specs.Meaning.{IsThePlacesOf, places_on}
-
--- At most 16 actions are named.
-pub few_named : (names : Names) (k : ℕ) → k ≡ length (names_of names).actions → k ≤ 16
-few_named names k is = let few = names.few_actions in omega (arith, as_long names.actions)
 
 -- Where the tables are those of a term, the flow that they tell is that of its places.
 pub prepared : (laid : LaidOut) (m : VocabularyMeaning) (e : Term) (n k : ℕ) (last : ℕ → ℕ) (next : ℕ → ℕ → ℕ) (own : ℕ → ℕ)

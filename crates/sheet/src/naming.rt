@@ -26,14 +26,16 @@ impl Names {
 
     // How many tests are named.
     pub fn tests(&self) -> u8
-        ensures { result ≡ length (names_of self.now).tests }
+        ensures counted { result ≡ length (names_of self.now).tests }
+        ensures few { result ≤ 32 }
     {
         self.tests.len()
     }
 
     // How many actions are named.
     pub fn actions(&self) -> u8
-        ensures { result ≡ length (names_of self.now).actions }
+        ensures counted { result ≡ length (names_of self.now).actions }
+        ensures few { result ≤ 16 }
     {
         self.actions.len()
     }

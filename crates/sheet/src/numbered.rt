@@ -45,6 +45,7 @@ impl<const MOST: usize> Numbered<MOST> {
     // How many names there are.
     pub(crate) fn len(&self) -> u8
         ensures counted { result ≡ length self.now }
+        ensures few { result ≤ MOST }
     {
         // Nothing is lost, as there are at most 255; a `try_from` would need an answer where there are more.
         self.names.len() as u8

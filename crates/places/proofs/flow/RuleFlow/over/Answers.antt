@@ -5,7 +5,7 @@ use Rattle.sheet.specs.Laid.{sheet_of}
 use Rattle.tables.specs.Masks.{FollowsFrom, WherePasses, action_mask, end_mask, follow_mask, term_of}
 use Rattle.tables.specs.Tables.{table_lawful}
 use Rattle.vocabulary.specs.Copies.{copied_lawful, copied_meaning}
-use Rattle.places.proofs.Prepared.{few_named, prepared}
+use Rattle.places.proofs.Prepared.{prepared}
 use Rattle.places.proofs.flow.RuleFlow.over.Goals as goal
 
 pub returns : goal.returns
@@ -24,8 +24,8 @@ returns c =
     let lawful = copied_lawful c.vocabulary-vocabulary.result.now in
     let some : 1 ≤ n = omega (arith, lawful.some) in
     let most : n ≤ 64 = omega (arith, lawful.most) in
-    let few = few_named c.names.result.now k c.actions.ensures in
-    let named : k ≡ length laid.names.actions = c.actions.ensures ∙ ap (λ names. length names.actions) c.names.ensures in
+    let few = c.actions.ensures.few in
+    let named : k ≡ length laid.names.actions = c.actions.ensures.counted ∙ ap (λ names. length names.actions) c.names.ensures in
     let inside : (s : ℕ) → s < n → s < m.situations = λ s lt. omega (arith, c.situations.ensures.as_meant) in
     record {
       as_its_places =

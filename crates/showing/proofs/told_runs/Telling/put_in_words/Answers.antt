@@ -9,7 +9,7 @@ pub loop-t-preserved : goal.loop-t-preserved
 loop-t-preserved c =
     let laid = sheet_of c.args.self.now.sheet.now in
     let holds = λ (t : ℕ). laid.meaning.holds t c.args.s in
-    let all = c.tests-t-end.ensures ∙ ap (λ n. length n.tests) c.names-names.ensures in
+    let all = c.tests-t-end.ensures.counted ∙ ap (λ n. length n.tests) c.names-names.ensures in
     let within = subst (λ n. c.loop-t.t < n) all c.loop-t-test.true in
     let asked = sym (c.holds.ensures.as_meant ∙ ap (λ m. m.holds c.loop-t.t c.args.s) c.vocabulary-vocabulary.ensures) in
     elim c.if-holds.branch [
@@ -25,7 +25,7 @@ loop-t-preserved c =
 pub returns-in_ok-put : goal.returns-in_ok-put
 returns-in_ok-put c =
     let laid = sheet_of c.args.self.now.sheet.now in
-    let all = c.tests-t-end.ensures ∙ ap (λ n. length n.tests) c.names-names.ensures in
+    let all = c.tests-t-end.ensures.counted ∙ ap (λ n. length n.tests) c.names-names.ensures in
     let end = subst (λ n. n ≤ c.loop-t.t) all c.loop-t-test.false in
     none_put _ _ (λ t. laid.meaning.holds t c.args.s) laid.names.tests c.loop-t.t c.loop-t.first _ (vec_items c.put.new.out) end c.if-first.true
     c.loop-t.invariant c.in_ok-put.ensures
@@ -33,6 +33,6 @@ returns-in_ok-put c =
 pub returns-else-first : goal.returns-else-first
 returns-else-first c =
     let laid = sheet_of c.args.self.now.sheet.now in
-    let all = c.tests-t-end.ensures ∙ ap (λ n. length n.tests) c.names-names.ensures in
+    let all = c.tests-t-end.ensures.counted ∙ ap (λ n. length n.tests) c.names-names.ensures in
     let end = subst (λ n. n ≤ c.loop-t.t) all c.loop-t-test.false in
     tests_put _ _ (λ t. laid.meaning.holds t c.args.s) laid.names.tests c.loop-t.t c.loop-t.first _ end c.if-first.false c.loop-t.invariant
