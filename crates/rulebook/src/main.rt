@@ -35,10 +35,8 @@ fn read_script(rt: &HostRuntime) -> anyhow::Result<Vec<u8>> {
 fn answer_script(rt: &HostRuntime, script: &[u8]) -> anyhow::Result<bool> {
     let mut desk = Desk::Empty;
     let mut text = Vec::new(rt.alloc());
-    let mut number: u64 = 0;
     let mut understood = true;
-    for line in Lines::new(script) {
-        number = number.saturating_add(1);
+    for (number, line) in (1..u64::MAX).zip(Lines::new(script)) {
         text.clear();
         if !desk.answer(rt.alloc(), number, line, &mut text)? {
             understood = false;
