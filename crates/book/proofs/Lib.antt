@@ -1,5 +1,4 @@
 -- The lemmas behind the answers of a book.
-pub mod Asking
 pub mod TextFlows
 pub mod TextRuns
 pub mod Answering

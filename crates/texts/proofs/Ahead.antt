@@ -7,10 +7,6 @@ use Rattle.texts.specs.Adds.{Adds}
 pub record Ahead (whole was rest now' : List ℕ) : Type 0 where
   pub is : was ++ whole ≡ now' ++ rest
 
--- At first all is ahead.
-pub all_ahead : (whole was : List ℕ) → Ahead whole was whole was
-all_ahead whole was = record { is = refl }
-
 -- A piece is put.
 pub piece_put : (whole was rest piece more now' next : List ℕ) → Ahead whole was rest now' → rest ≡ piece ++ more → Adds piece now' next → Ahead whole was more next
 piece_put whole was rest piece more now' next ahead parts put = record {
@@ -20,11 +16,3 @@ piece_put whole was rest piece more now' next ahead parts put = record {
 -- Nothing is put, and nothing is wanted.
 pub nothing_put : (whole was rest more now' : List ℕ) → Ahead whole was rest now' → rest ≡ more → Ahead whole was more now'
 nothing_put whole was rest more now' ahead same = record { is = ahead.is ∙ ap (λ l. now' ++ l) same }
-
--- The last piece is put.
-pub all_put : (whole was rest now' next : List ℕ) → Ahead whole was rest now' → Adds rest now' next → Adds whole was next
-all_put whole was rest now' next ahead put = record { is = put.is ∙ sym ahead.is }
-
--- Nothing is ahead any more.
-pub none_ahead : (whole was rest now' : List ℕ) → Ahead whole was rest now' → rest ≡ [] → Adds whole was now'
-none_ahead whole was rest now' ahead none = record { is = sym (ahead.is ∙ ap (λ l. now' ++ l) none ∙ append-nil now') }

@@ -1,7 +1,7 @@
 -- Each turn puts a test that holds or passes one that does not; behind the last, `none` is put if no test held.
-use Rattle.std.proofs.Common.{ℕ, ◌<◌, ◌≤◌, [], length, get_or, vec_items, sym, ap, ◌∙◌, subst}
+use Rattle.std.proofs.Common.{ℕ, ◌<◌, [], length, get_or, sym, ap, ◌∙◌, subst}
 use Rattle.sheet.specs.Laid.{sheet_of}
-use Rattle.showing.proofs.Told.{none_put, test_passed, test_put, tests_put}
+use Rattle.showing.proofs.Told.{test_passed, test_put}
 use Rattle.showing.proofs.told_runs.Telling.put_in_words.Goals as goal
 use Rattle.showing.proofs.told_runs.Telling.put_in_words.Goals.{then-holds+in_ok-put_test, else-holds}
 
@@ -21,18 +21,3 @@ loop-t-preserved c =
           simp (w.out-is, w.first-is)
           (test_passed _ _ holds laid.names.tests c.loop-t.t c.loop-t.first _ within (asked ∙ w.if-holds.false) c.loop-t.invariant)
     ]
-
-pub returns-in_ok-put : goal.returns-in_ok-put
-returns-in_ok-put c =
-    let laid = sheet_of c.args.self.now.sheet.now in
-    let all = c.tests-t-end.ensures.counted ∙ ap (λ n. length n.tests) c.names-names.ensures in
-    let end = subst (λ n. n ≤ c.loop-t.t) all c.loop-t-test.false in
-    none_put _ _ (λ t. laid.meaning.holds t c.args.s) laid.names.tests c.loop-t.t c.loop-t.first _ (vec_items c.put.new.out) end c.if-first.true
-    c.loop-t.invariant c.in_ok-put.ensures
-
-pub returns-else-first : goal.returns-else-first
-returns-else-first c =
-    let laid = sheet_of c.args.self.now.sheet.now in
-    let all = c.tests-t-end.ensures.counted ∙ ap (λ n. length n.tests) c.names-names.ensures in
-    let end = subst (λ n. n ≤ c.loop-t.t) all c.loop-t-test.false in
-    tests_put _ _ (λ t. laid.meaning.holds t c.args.s) laid.names.tests c.loop-t.t c.loop-t.first _ end c.if-first.false c.loop-t.invariant

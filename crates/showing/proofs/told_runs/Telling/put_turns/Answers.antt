@@ -1,7 +1,7 @@
 -- Each turn puts a blank and a situation or an action, and behind the last byte all are put.
 use Rattle.std.proofs.Common.{true, false, [], get_or, refl, ap, ◌∙◌}
 use Rattle.sheet.specs.Laid.{sheet_of}
-use Rattle.showing.proofs.Told.{turn_put, turns_put}
+use Rattle.showing.proofs.Told.{turn_put}
 use Rattle.showing.proofs.told_runs.Telling.put_turns.Goals as goal
 use Rattle.showing.proofs.told_runs.Telling.put_turns.Goals.{then-situation+in_ok-put_situation, else-situation+in_ok-put-2}
 
@@ -19,6 +19,3 @@ loop-b-preserved c =
           (turn_put _ _ laid c.args.self.now.words c.args.run.now c.loop-b.b-index c.loop-b.situation false _ _ _ _ c.loop-b-test.true w.if-situation.false
           named c.loop-b.invariant c.in_ok-put.ensures w.in_ok-put-2.ensures)
     ]
-
-pub returns : goal.returns
-returns c = turns_put _ _ (sheet_of c.args.self.now.sheet.now) c.args.self.now.words c.args.run.now c.loop-b.b-index c.loop-b.situation _ c.loop-b-test.false c.loop-b.invariant
