@@ -40,7 +40,7 @@ module _ (f g : FlowMeaning) (size : ℕ) where
   list i = list_after f.situations f.actions f g i
 
   -- The walk from pair i on.
-  abbrev pub on_from : ℕ → walks.Ending
+  abbrev on_from : ℕ → walks.Ending
   on_from i = walk_from f.situations f.actions f g size (suc size - i) i
 
   -- The first i pairs have been followed.
