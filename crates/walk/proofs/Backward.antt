@@ -1,54 +1,24 @@
 -- The way back through a table, and the run that is read off it.
-use Rattle.std.proofs.Common.{◌≡◌, ℕ, zero, suc, ◌+◌, ◌*◌, ◌<◌, ◌≤◌, List, [], ◌∷◌, ◌++◌, map, length, get_or, drop, set, sym, refl, ap, ◌∙◌, arith, length-append}
+use Rattle.std.proofs.Common.{◌≡◌, ℕ, zero, suc, ◌+◌, ◌*◌, ◌<◌, ◌≤◌, List, [], ◌∷◌, ◌++◌, map, length, reverse, get_or, drop, set, sym, refl, ap, ◌∙◌, arith}
 use lib.ListN.{get_or-map}
-use Rattle.std.proofs.lemmas.List.{drop-set, length-set, nil_from_length}
+use Rattle.std.proofs.lemmas.List.{drop-set, length-reverse, length-set, nil_from_length, reverse-append, reverse-reverse}
 use Rattle.runs.specs.Runs.{Move}
 use Rattle.runs.specs.Tracing.{traced_back, written_before}
+use Rattle.runs.specs.Walks.{Listed}
+use Rattle.runs.proofs.Tracebacks as tracebacks
 use Rattle.walk.specs.declared.record.PairRecord.{PairRecord}
 use Rattle.walk.specs.Records.{listed_of, zero_record}
-use Rattle.walk.specs.Traced.{MetEarlier, moves_to, steps_back, way_back}
+use Rattle.walk.specs.Traced.{MetEarlier, move_to, moves_back, moves_to}
 
--- Any steps that are enough give the same way back.
-enough_steps : (table : List PairRecord) (i : ℕ) → MetEarlier table i → (a b j : ℕ) → j ≤ i → j ≤ a → j ≤ b → steps_back table a j ≡ steps_back table b j
-enough_steps table i met zero zero j h k l = refl
-enough_steps table i met zero (suc b) zero h k l = refl
-enough_steps table i met zero (suc b) (suc j) h k l = absurd (omega arith)
-enough_steps table i met (suc a) zero zero h k l = refl
-enough_steps table i met (suc a) zero (suc j) h k l = absurd (omega arith)
-enough_steps table i met (suc a) (suc b) zero h k l = refl
-enough_steps table i met (suc a) (suc b) (suc j) h k l =
-    let entry = get_or table (suc j) zero_record in
-    let less : entry.from < suc j = met.1 (suc j) (omega arith) h in
-    ap (λ rest. entry ∷ rest) (enough_steps table i met a b entry.from (omega arith) (omega arith) (omega arith))
-
--- The way back from a record is that record, and the way back from the one that it was met from.
-pub one_back : (table : List PairRecord) (i : ℕ) → MetEarlier table i → (i ≡ 0 → ⊥) → way_back table i ≡ get_or table i zero_record ∷ way_back table (get_or table i zero_record).from
-one_back table zero met some = absurd (some refl)
-one_back table (suc i) met some =
-    let entry = get_or table (suc i) zero_record in
-    let less : entry.from < suc i = met.1 (suc i) (omega arith) (omega arith) in
-    ap (λ rest. entry ∷ rest) (enough_steps table (suc i) met i entry.from entry.from (omega arith) (omega arith) (omega arith))
-
--- The moves of a way back, from its end to its beginning.
-abbrev pub moves_of : List PairRecord → List Move
-moves_of [] = []
-moves_of (entry ∷ rest) = moves_of rest ++ ((listed_of entry).move ∷ [])
-
-moves_steps : (table : List PairRecord) (steps j : ℕ) → traced_back (map listed_of table) steps j ≡ moves_of (steps_back table steps j)
-moves_steps table zero j = refl
-moves_steps table (suc steps) zero = refl
-moves_steps table (suc steps) (suc j) =
-    (λ k. traced_back (map listed_of table) steps (get_or-map listed_of table (suc j) zero_record k).from ++ ((get_or-map listed_of table (suc j) zero_record k).move ∷ []))
-    ∙ ap (λ moves. moves ++ ((listed_of (get_or table (suc j) zero_record)).move ∷ [])) (moves_steps table steps (get_or table (suc j) zero_record).from)
-
--- There are as many as records on the way.
-moves_length : (way : List PairRecord) → length (moves_of way) ≡ length way
-moves_length [] = refl
-moves_length (entry ∷ rest) = length-append (moves_of rest) _ ∙ omega (arith, moves_length rest)
-
--- So many moves led to a record as there are records on the way back.
-pub way_length : (table : List PairRecord) (i : ℕ) → length (way_back table i) ≡ length (moves_to table i)
-way_length table i = sym (ap length (moves_steps table i i) ∙ moves_length (way_back table i))
+-- The way back from a record is its own move, and the way back from the record that it was met from.
+pub one_back : (table : List PairRecord) (i : ℕ) → MetEarlier table i → (i ≡ 0 → ⊥)
+    → moves_back table i ≡ move_to (get_or table i zero_record) ∷ moves_back table (get_or table i zero_record).from
+one_back table i met some =
+    let entry_of = λ (j : ℕ). get_or-map listed_of table j zero_record in
+    ap reverse
+    (tracebacks.one_back (map listed_of table) i (λ j more h. rw (entry_of j) (met.1 j more h)) i (omega arith) (omega arith)
+    ∙ ap (λ (entry : Listed). traced_back (map listed_of table) entry.from entry.from ++ (entry.move ∷ [])) (entry_of i))
+    ∙ reverse-append (moves_to table (get_or table i zero_record).from) _
 
 -- The bytes of moves, and more behind them.
 abbrev pub bytes_before : List Move → List ℕ → List ℕ
@@ -73,46 +43,46 @@ two_written zero s a (x ∷ y ∷ run) h = refl
 two_written (suc place) s a [] h = absurd (omega arith)
 two_written (suc place) s a (x ∷ run) h = two_written place s a run (omega arith)
 
--- Of all records on a way the rest are left, in so many turns; the moves of the others have been written behind their place, over what the buffer held when the
--- last situation stood in it.
-pub record Writing (all rest : List PairRecord) (begun run : List ℕ) (turns : ℕ) : Type 0 where
+-- Of all moves on a way back the rest are left, in so many turns; the others have been written behind their place, over what the buffer held when the last
+-- situation stood in it.
+pub record Writing (all rest : List Move) (begun run : List ℕ) (turns : ℕ) : Type 0 where
   pub left : turns ≡ length rest
   pub fits : 2 * turns < length run
-  pub whole : bytes_before (moves_of rest) (drop (2 * turns) run) ≡ bytes_before (moves_of all) (drop (2 * length all) begun)
+  pub whole : bytes_before (reverse rest) (drop (2 * turns) run) ≡ bytes_before (reverse all) (drop (2 * length all) begun)
 
--- No move has been.
-pub write_none : {all rest : List PairRecord} {begun : List ℕ} {actions turns : ℕ} → rest ≡ all → turns ≡ actions → actions ≡ length all → 2 * actions < length begun
+-- None has been.
+pub write_none : {all rest : List Move} {begun : List ℕ} {actions turns : ℕ} → rest ≡ all → turns ≡ actions → actions ≡ length all → 2 * actions < length begun
     → Writing all rest begun begun turns
 write_none {all} {rest} {begun} {actions} {turns} is same many fits = record {
   left = omega (arith, ap length is);
   fits = omega arith;
-  whole = (λ j. bytes_before (moves_of (is j)) (drop (2 * (same ∙ many) j) begun));
+  whole = (λ j. bytes_before (reverse (is j)) (drop (2 * (same ∙ many) j) begun));
 }
 
--- The moves of one record more have been.
-pub write_more : {all rest left : List PairRecord} {begun run : List ℕ} {turns turn after : ℕ} (entry : PairRecord) → Writing all rest begun run turns → rest ≡ entry ∷ left
-    → turn ≡ after → turns ≡ after + 1 → Writing all left begun (set (set run (2 * turn) entry.situation) (2 * turn + 1) entry.action) after
-write_more {all} {rest} {left} {begun} {run} {turns} {turn} {after} entry w is at one =
+-- One more has been.
+pub write_more : {all rest left : List Move} {begun run : List ℕ} {turns turn after : ℕ} (move : Move) → Writing all rest begun run turns → rest ≡ move ∷ left
+    → turn ≡ after → turns ≡ after + 1 → Writing all left begun (set (set run (2 * turn) move.situation) (2 * turn + 1) move.action) after
+write_more {all} {rest} {left} {begun} {run} {turns} {turn} {after} move w is at one =
     let next : suc (2 * turn) ≡ 2 * turn + 1 = omega arith in
     let behind : suc (suc (2 * turn)) ≡ 2 * turns = omega arith in
     record {
       left = omega (arith, w.left, ap length is);
       fits = simp length-set (omega (arith, w.fits));
       whole =
-          ap (bytes_before (moves_of left))
-          ((λ j. drop (2 * sym at j) (set (set run (2 * turn) entry.situation) (sym next j) entry.action)) ∙ two_written (2 * turn) entry.situation entry.action run (omega (arith, w.fits))
-          ∙ ap (λ n. entry.situation ∷ entry.action ∷ drop n run) behind)
-          ∙ sym (ap (λ records. bytes_before (moves_of records) (drop (2 * turns) run)) is ∙ bytes_more (moves_of left) (listed_of entry).move (drop (2 * turns) run))
+          ap (bytes_before (reverse left))
+          ((λ j. drop (2 * sym at j) (set (set run (2 * turn) move.situation) (sym next j) move.action)) ∙ two_written (2 * turn) move.situation move.action run (omega (arith, w.fits))
+          ∙ ap (λ n. move.situation ∷ move.action ∷ drop n run) behind)
+          ∙ sym (ap (λ moves. bytes_before moves (drop (2 * turns) run)) (ap reverse is ∙ reverse-append (move ∷ []) left) ∙ bytes_more (reverse left) move (drop (2 * turns) run))
           ∙ w.whole;
     }
 
 -- All have been, and so the run has.
-pub write_all : {rest : List PairRecord} {run : List ℕ} {turns : ℕ} (table : List PairRecord) (i : ℕ) (begun : List ℕ) (actions last : ℕ)
-    → Writing (way_back table i) rest (set begun (2 * actions) last) run turns → turns ≡ 0 → actions ≡ length (moves_to table i) → 2 * actions + 1 ≤ length begun
-    → run ≡ written_before (moves_to table i) last ++ drop (2 * actions + 1) begun
-write_all {rest} {run} {turns} table i begun actions last w none many fits =
+pub write_all : {rest : List Move} {run : List ℕ} {turns : ℕ} (moves : List Move) (begun : List ℕ) (actions last : ℕ)
+    → Writing (reverse moves) rest (set begun (2 * actions) last) run turns → turns ≡ 0 → actions ≡ length moves → 2 * actions + 1 ≤ length begun
+    → run ≡ written_before moves last ++ drop (2 * actions + 1) begun
+write_all {rest} {run} {turns} moves begun actions last w none many fits =
     let nothing : rest ≡ [] = nil_from_length rest (omega (arith, w.left)) in
-    let all : actions ≡ length (way_back table i) = many ∙ sym (way_length table i) in
-    sym (λ j. bytes_before (moves_of (nothing j)) (drop (2 * none j) run)) ∙ w.whole
-    ∙ (λ j. bytes_before (sym (moves_steps table i i) j) (((λ k. drop (2 * sym all k) (set begun (2 * actions) last)) ∙ drop-set begun (2 * actions) last (omega arith)) j))
-    ∙ sym (bytes_written (moves_to table i) last (drop (2 * actions + 1) begun))
+    let all : length (reverse moves) ≡ actions = length-reverse moves ∙ sym many in
+    sym (λ j. bytes_before (reverse (nothing j)) (drop (2 * none j) run)) ∙ w.whole
+    ∙ (λ j. bytes_before (reverse-reverse moves j) (((λ k. drop (2 * all k) (set begun (2 * actions) last)) ∙ drop-set begun (2 * actions) last (omega arith)) j))
+    ∙ sym (bytes_written moves last (drop (2 * actions + 1) begun))

@@ -1,11 +1,12 @@
 -- The turns of the walk: what the table holds so far, and that the rest of the walk is the walk from there.
 use Rattle.std.proofs.Common.{◌≡◌, ℕ, suc, ◌+◌, ◌-◌, ◌<◌, ◌≤◌, true, false, ltb, leb, List, [], ◌∷◌, Ok, Err, Result, ◌++◌, map, length, take, sym, refl, ap, ◌∙◌, subst, add-one, arith, take-append-drop}
+use native.Mathlib.Nat.{sub-zero}
 use Rattle.std.proofs.lemmas.Bool.{le-leb, le-ltb, lt-leb, lt-ltb}
 use Rattle.std.proofs.lemmas.List.{length-map, length-take-le}
 use Rattle.runs.specs.Flows.{FlowMeaning}
 use Rattle.runs.specs.Pairs.{Pair, disagree_at}
 use Rattle.runs.specs.Walks as walks
-use Rattle.runs.specs.Walks.{Listed, at, followed, list_after, moves_below, walk_from}
+use Rattle.runs.specs.Walks.{Listed, at, followed, list_after, listed_start, moves_below, walk_from}
 use Rattle.runs.proofs.Trees.{list_next}
 use Rattle.walk.specs.Listings.{Grew, listed, room}
 use Rattle.walk.specs.declared.ending.Ending.{Ending}
@@ -39,7 +40,7 @@ module _ (f g : FlowMeaning) (size : ℕ) where
   list i = list_after f.situations f.actions f g i
 
   -- The walk from pair i on.
-  abbrev pub on_from : ℕ → walks.Ending
+  abbrev on_from : ℕ → walks.Ending
   on_from i = walk_from f.situations f.actions f g size (suc size - i) i
 
   -- The first i pairs have been followed.
@@ -48,6 +49,19 @@ module _ (f g : FlowMeaning) (size : ℕ) where
     pub reached : i ≤ listing.used
     pub lists : listed listing ≡ list i
     pub rest : on_from i ≡ walk_of f g size
+
+  -- The start alone is listed.
+  pub begin : {listing : Listing} → room listing ≡ size → listed listing ≡ listed_start f g ∷ [] → Going listing 0
+  begin {listing} same is =
+      let one : listing.used ≡ 1 = sym (long_listed listing) ∙ ap length is in
+      let some : 0 < size = omega (arith, listing.fit) in
+      record {
+        same_room = same;
+        reached = omega arith;
+        lists = is;
+        rest = ap (λ turns. walk_from f.situations f.actions f g size turns 0) (sub-zero (suc size))
+            ∙ sym (ap (λ b. walks.turn true false b 0 (walk_from f.situations f.actions f g size (suc size) 0)) (lt-ltb 0 size some));
+      }
 
   -- What the code ends with, by how the walk ends.
   ended : (ending : walks.Ending) (table : List PairRecord) → walk_of f g size ≡ ending → Stands f g size table ending → Walked f g size table (ending_of ending)

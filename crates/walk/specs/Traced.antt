@@ -1,5 +1,5 @@
 -- The moves that led to a record of a table, and that going back through the table ends.
-use Rattle.std.specs.Prelude.{ℕ, zero, suc, ◌<◌, ◌≤◌, List, [], ◌∷◌, map, length, slice_index_or}
+use Rattle.std.specs.Prelude.{ℕ, ◌<◌, ◌≤◌, List, map, length, reverse, slice_index_or}
 use Rattle.runs.specs.Runs.{Move}
 use Rattle.runs.specs.Tracing.{traced_back}
 use Rattle.walk.specs.Records.{listed_of, zero_record}
@@ -13,11 +13,10 @@ MetEarlier table i = (i < length table) × ((j : ℕ) → 0 < j → j ≤ i → 
 abbrev pub moves_to : List PairRecord → ℕ → List Move
 moves_to table i = traced_back (map listed_of table) i i
 
--- The records from one on back to the start, which is left out; as many steps as its number are enough.
-abbrev pub steps_back : List PairRecord → ℕ → ℕ → List PairRecord
-steps_back table zero at = []
-steps_back table (suc steps) zero = []
-steps_back table (suc steps) (suc at) = slice_index_or table (suc at) zero_record ∷ steps_back table steps (slice_index_or table (suc at) zero_record).from
+-- The move that led to a record from the one that it was met from.
+abbrev pub move_to : PairRecord → Move
+move_to entry = (listed_of entry).move
 
-abbrev pub way_back : List PairRecord → ℕ → List PairRecord
-way_back table at = steps_back table at at
+-- The same moves on the way back, from the last to the first.
+abbrev pub moves_back : List PairRecord → ℕ → List Move
+moves_back table i = reverse (moves_to table i)

@@ -1,6 +1,6 @@
 // The way back through a table, from a record to the start.
-ghost use Rattle.std.specs.Iterator.{YieldsFirst, at_most};
-ghost use Rattle.walk.specs.Traced.{MetEarlier, way_back};
+ghost use Rattle.std.specs.Iterator.{YieldsFirstBy, at_most};
+ghost use Rattle.walk.specs.Traced.{MetEarlier, move_to, moves_back};
 
 use crate::record::PairRecord;
 
@@ -16,7 +16,7 @@ pub(crate) struct Trail<'a> {
 impl Iterator for Trail<'_> {
     type Item = PairRecord;
 
-    ghost next_gives = { YieldsFirst (λ trail. way_back trail.table.now trail.at) };
+    ghost next_gives = { YieldsFirstBy move_to (λ trail. moves_back trail.table.now trail.at) };
 
     ghost remaining = { λ trail. at_most trail.at };
 

@@ -1,4 +1,4 @@
-// What pairs and records are found by, so that the one list that finds keys finds pairs.
+// What pairs and records are found by, so that the one list that finds keys finds them.
 use crate::pair::CodePair;
 use crate::record::PairRecord;
 use keys::Keyed;
