@@ -1,5 +1,5 @@
 -- The builders build all that is derived, where the reader meets no limit.
-use Rattle.std.proofs.Common.{◌≡◌, ℕ, zero, suc, ◌+◌, ◌-◌, ◌*◌, ◌<◌, ◌≤◌, Bool, true, false, ◌||◌, List, [], ◌∷◌, ◌++◌, Some, Ok, Err, Option, Result, refl, ap, ◌∙◌, subst, ap₂, le_trans, arith}
+use Rattle.std.proofs.Common.{◌≡◌, ℕ, zero, suc, ◌+◌, ◌-◌, ◌*◌, ◌<◌, ◌≤◌, Bool, true, false, ◌||◌, List, [], ◌∷◌, ◌++◌, Some, Ok, Err, Option, Result, refl, ap, ◌∙◌, subst, ap₂, arith}
 use Rattle.std.proofs.lemmas.Bool.{lt-ltb, ne_eqb, or_parts}
 use Rattle.sheet.specs.declared.named.Named.TheVariants.{Test, Action}
 use Rattle.signs.specs.Signs.{Mark, named, skipping, stopping, opening, closing, negating, repeating, following, choosing}
@@ -11,6 +11,7 @@ use Rattle.grammar.specs.Reading.{is_repeating, is_following, is_choosing, grown
 use Rattle.grammar.specs.Theorems.{Meaning, chain_goes_on, choice_goes_on, infront, past}
 use Rattle.grammar.specs.declared.fault.RuleFault.{RuleFault}
 use Rattle.grammar.specs.declared.fault.RuleFault.TheVariants.{Unfit}
+use Rattle.grammar.proofs.Numbering.{chain_numbered, choice_numbered, grows, step_numbered}
 use Rattle.grammar.proofs.Results.{err_not_ok, ok_same, through_test}
 use Rattle.grammar.proofs.Signs.{infront_joined, infront_left, plain_joined}
 use Rattle.grammar.proofs.States.{behind, built, ready}
@@ -208,28 +209,6 @@ steps_joiner =
       judged_so = λ means levels place b s k room. rw (ne_eqb s 255 room);
     }
 
--- The actions only grow.
-mutual
-  choice_grows : {means : Meaning} {depth before after : ℕ} {signs : List Mark} {e : Term} → Choice means depth before signs e after → before ≤ after
-  choice_grows (one_chain c) = chain_grows c
-  choice_grows (more_chains place c d) = le_trans (chain_grows c) (choice_grows d)
-
-  chain_grows : {means : Meaning} {depth before after : ℕ} {signs : List Mark} {e : Term} → Chain means depth before signs e after → before ≤ after
-  chain_grows (one_step s) = step_grows s
-  chain_grows (more_steps place s c) = le_trans (step_grows s) (chain_grows c)
-
-  step_grows : {means : Meaning} {depth before after : ℕ} {signs : List Mark} {e : Term} → Step means depth before signs e after → before ≤ after
-  step_grows (unit u) = unit_grows u
-  step_grows (repeated place s) = step_grows s
-
-  unit_grows : {means : Meaning} {depth before after : ℕ} {signs : List Mark} {e : Term} → Unit' means depth before signs e after → before ≤ after
-  unit_grows (a_test name place t e) = omega arith
-  unit_grows (an_action name place a e) = omega arith
-  unit_grows (the_skip place) = omega arith
-  unit_grows (the_stop place) = omega arith
-  unit_grows (negated place u t) = unit_grows u
-  unit_grows (in_brackets p q c) = choice_grows c
-
 -- All that is derived is read.
 mutual
   pub choice_read : {means : Meaning} {depth before after : ℕ} {signs : List Mark} {e : Term}
@@ -238,7 +217,7 @@ mutual
       one_reads chain_from choice_from chain_goes_on is_choosing choice chains_joiner 2 means depth before after signs e (chain_read c)
   choice_read {means} (more_chains {depth} {before} {between} {after} {xs} {ys} {e} {f} place c d) =
       more_reads chain_from choice_from chain_goes_on is_choosing choice chains_joiner 2 means depth before between after place xs ys e f
-      (chain_grows c) (choice_grows d) (chain_read c) (choice_read d)
+      (grows _ _ _ (chain_numbered c)) (grows _ _ _ (choice_numbered d)) (chain_read c) (choice_read d)
 
   chain_read : {means : Meaning} {depth before after : ℕ} {signs : List Mark} {e : Term}
       → Chain means depth before signs e after → PartReads chain_from chain_goes_on 2 means depth before signs e after
@@ -246,7 +225,7 @@ mutual
       one_reads step_from chain_from is_repeating is_following chain steps_joiner 1 means depth before after signs e (step_reads means depth before after signs e (step_read s))
   chain_read {means} (more_steps {depth} {before} {between} {after} {xs} {ys} {e} {f} place s c) =
       more_reads step_from chain_from is_repeating is_following chain steps_joiner 1 means depth before between after place xs ys e f
-      (step_grows s) (chain_grows c) (step_reads means depth before between xs e (step_read s)) (chain_read c)
+      (grows _ _ _ (step_numbered s)) (grows _ _ _ (chain_numbered c)) (step_reads means depth before between xs e (step_read s)) (chain_read c)
 
   step_read : {means : Meaning} {depth before after : ℕ} {signs : List Mark} {e : Term}
       → Step means depth before signs e after → StepReads means depth before signs e after

@@ -1,10 +1,10 @@
 -- Enough fuel: each part that was built leaves fewer signs ahead, so that every later call has enough fuel too.
 use Rattle.std.proofs.Common.{◌≡◌, ℕ, zero, suc, ◌+◌, ◌-◌, ◌<◌, ◌≤◌, Bool, true, false, cond, ◌⊎◌, List, [], ◌∷◌, ◌++◌, length, Some, None, Ok, Err, Option, Result, refl, ap, ◌∙◌, subst, inl, inr, arith, rules}
-use Rattle.signs.specs.Signs.{Mark, named, skipping, stopping, opening, closing, negating, repeating, following, choosing}
+use Rattle.signs.specs.Signs.{Mark, repeating, following}
 use Rattle.kat.specs.Terms.{Term, chain, choice}
-use Rattle.grammar.specs.Derivations.{Chain, Step, Unit', a_test, an_action, in_brackets, more_steps, negated, one_step, repeated, the_skip, the_stop, unit}
+use Rattle.grammar.specs.Derivations.{Chain, Step, Unit', more_steps, one_step, repeated, unit}
 use Rattle.grammar.specs.Reading.{Ahead, sign, over, faulty, Machine, Pulled, Grown, judge, judged, end_fits, pull, bind_pulled, bind_built, bind_grown, is_following, is_choosing}
-use Rattle.grammar.specs.Reading.{negated_unit, closed_unit, unit_at, joined_with, or_more, choice_from, chain_from, step_from, unit_from, signs_left}
+use Rattle.grammar.specs.Reading.{unit_at, joined_with, or_more, choice_from, chain_from, step_from, unit_from, signs_left}
 use Rattle.grammar.specs.Theorems.{Meaning, Deriving, FuelIsEnough, PartGrown, SameByFuel, past, pulled_behind}
 use Rattle.grammar.specs.declared.fault.RuleFault.{RuleFault}
 use Rattle.grammar.specs.declared.fault.RuleFault.TheVariants.{Unfit}

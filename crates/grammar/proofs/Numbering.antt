@@ -1,5 +1,5 @@
 -- The places of what is derived are numbered on from the actions before it, so those of a rule from 1 on.
-use Rattle.std.proofs.Common.{◌≡◌, ℕ, suc, ◌+◌, List, [], ◌++◌, map, length, refl, subst, arith, length-append}
+use Rattle.std.proofs.Common.{◌≡◌, ℕ, suc, ◌+◌, ◌≤◌, List, [], ◌++◌, map, length, refl, subst, arith, length-append}
 use lib.ListN.{length-map}
 use Rattle.signs.specs.Signs.{Mark}
 use Rattle.kat.specs.Places.{Place, and_then, places_in}
@@ -11,7 +11,7 @@ use Rattle.grammar.specs.Theorems.{Meaning, RuleIsNumbered}
 use Rattle.grammar.proofs.Tested.{test_places, told_test}
 
 -- Behind so many actions the places are numbered on, and with them there are so many.
-abbrev NumberedOn : ℕ → List Place → ℕ → Type 0
+abbrev pub NumberedOn : ℕ → List Place → ℕ → Type 0
 NumberedOn before places after = CountedFrom (suc before) places × (after ≡ before + length places)
 
 -- No places are no actions more.
@@ -32,20 +32,20 @@ then_numbered f before after places a = (counted_then f (suc before) places a.0,
 
 -- What is derived is numbered on: by induction on the derivation.
 mutual
-  choice_numbered : {means : Meaning} {depth before after : ℕ} {signs : List Mark} {e : Term}
+  pub choice_numbered : {means : Meaning} {depth before after : ℕ} {signs : List Mark} {e : Term}
       → Choice means depth before signs e after → NumberedOn before (places_in e) after
   choice_numbered (one_chain c) = chain_numbered c
   choice_numbered (more_chains {depth} {before} {between} {after} {xs} {ys} {e} {f} place c d) =
       more_numbered before between after (places_in e) (places_in f) (chain_numbered c) (choice_numbered d)
 
-  chain_numbered : {means : Meaning} {depth before after : ℕ} {signs : List Mark} {e : Term}
+  pub chain_numbered : {means : Meaning} {depth before after : ℕ} {signs : List Mark} {e : Term}
       → Chain means depth before signs e after → NumberedOn before (places_in e) after
   chain_numbered (one_step s) = step_numbered s
   chain_numbered (more_steps {depth} {before} {between} {after} {xs} {ys} {e} {f} place s c) =
       more_numbered before between after (map (and_then f) (places_in e)) (places_in f)
       (then_numbered f before between (places_in e) (step_numbered s)) (chain_numbered c)
 
-  step_numbered : {means : Meaning} {depth before after : ℕ} {signs : List Mark} {e : Term}
+  pub step_numbered : {means : Meaning} {depth before after : ℕ} {signs : List Mark} {e : Term}
       → Step means depth before signs e after → NumberedOn before (places_in e) after
   step_numbered (unit u) = unit_numbered u
   step_numbered (repeated {depth} {before} {after} {signs} {e} place s) = then_numbered (star e) before after (places_in e) (step_numbered s)
@@ -59,6 +59,10 @@ mutual
   unit_numbered (negated {depth} {before} {after} {signs} {e} place u t) =
       subst (λ places. NumberedOn before places after) (test_places (told_test e t)) (unit_numbered u)
   unit_numbered (in_brackets p q c) = choice_numbered c
+
+-- So the actions only grow.
+pub grows : (before after : ℕ) (places : List Place) → NumberedOn before places after → before ≤ after
+grows before after places n = omega (arith, n.1)
 
 -- A rule is a choice behind no actions.
 pub rule_is_numbered : RuleIsNumbered

@@ -1,19 +1,15 @@
 -- The four builders where there is fuel, one step each.
-use Rattle.std.proofs.Common.{◌≡◌, ℕ, zero, suc, ◌+◌, ◌*◌, ◌<◌, ◌≤◌, Result, arith}
+use Rattle.std.proofs.Common.{◌≡◌, ℕ, suc, ◌+◌, ◌*◌, ◌≤◌, Result}
 use Rattle.grammar.specs.Reading.{bind_built, bind_grown, chain_from, choice_from, is_choosing, is_following, or_more, signs_left, stars_from, step_from, unit_from}
 use Rattle.kat.specs.Terms.{chain, choice}
 use Rattle.grammar.specs.declared.fault.RuleFault.{RuleFault}
+use Rattle.grammar.proofs.Complete.{by_suc}
 use Rattle.rules.specs.Builders.{ChainRead, ChoiceRead, StepRead, UnitRead, built_of, grown_of, shown_built, shown_grown}
 use Rattle.rules.specs.Machines.{machine_of}
 use Rattle.rules.specs.Readers.{ahead_by, means_of}
 use Rattle.rules.specs.declared.part.Built.{Built}
 use Rattle.rules.specs.declared.part.Grown.{Grown}
 use Rattle.rules.specs.declared.reader.Reader.{Reader}
-
--- a bound on the fuel leaves some
-by_suc : (P : ℕ → Type 0) (m : ℕ) → ((f : ℕ) → m ≤ f → P (suc f)) → (f : ℕ) → m < f → P f
-by_suc P m h zero lt = absurd (omega arith)
-by_suc P m h (suc f) lt = h f (omega arith)
 
 module _ (levels : ℕ) (a b : Reader) where
   pub choice_by : (r : Result Grown RuleFault)

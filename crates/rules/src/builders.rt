@@ -1,5 +1,6 @@
 // The four builders of a rule: a choice is of chains, a chain of steps, a step is a unit and the `*` behind it, and a
-// unit is a name, a word, a choice in brackets or a negated unit. They call each other in a cycle.
+// unit is a name, a word, a choice in brackets or a negated unit. They call each other in a cycle. How many levels may still
+// be opened is handed down, since only they know where a negated unit ends.
 ghost use Rattle.std.specs.Prelude.{◌≡◌, ◌+◌, ◌<◌, ◌≤◌};
 ghost use Rattle.rules.specs.Builders.{Adds, ChainRead, ChoiceRead, NamedRead, NegatedRead, NotBack, OneMore, Onward, OnwardUnit, StarsRead, StepRead, UnitRead, joined_shape, shape_at};
 ghost use Rattle.rules.specs.Readers.{Stays};

@@ -18,9 +18,8 @@ pub(crate) struct Machine {
     pub(crate) signs: u8,
     // The actions read.
     pub(crate) actions: u8,
-    // The nodes of the rule so far, whether or not there was room for them.
+    // The nodes of the rule so far, whether or not the slice that the caller lends had room for them.
     pub(crate) nodes: u8,
-    ghost few_signs: { signs ≤ 255 },
     ghost few_actions: { actions ≤ 63 },
     // Each node stands for a sign that was counted.
     ghost few_nodes: { nodes ≤ signs },

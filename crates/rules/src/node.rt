@@ -1,6 +1,7 @@
 // The nodes that a rule is laid out in.
 
 // A node of a rule. Parts are named by their places in the rule's own nodes, and stand in front of what they are parts of.
+// Places stand for parts, and `Empty` for no node, since a rule lies in a slice that the caller lends.
 #[derive(Clone, Copy, PartialEq, Eq, Debug)]
 pub enum Node {
     // No node yet.

@@ -1,5 +1,5 @@
 -- Where a text is refused: at its first fault from the left, and nowhere if it has none.
-use Rattle.std.proofs.Common.{◌≡◌, ℕ, zero, suc, ◌<◌, true, false, not, ltb, List, length, get_or, Ok, Err, Result, sym, refl, ap, ◌∙◌, subst, inl, inr, zero-add}
+use Rattle.std.proofs.Common.{◌≡◌, ℕ, ◌<◌, true, false, not, ltb, List, length, get_or, Ok, Err, Result, sym, refl, ap, ◌∙◌, subst, inl, inr, zero-add, rules}
 use Rattle.std.proofs.lemmas.List.{get_or_past}
 use Rattle.std.proofs.lemmas.Bool.{and_parts, both_ways, cond-false, cases_lt, cases_order, not-true, ltb-true}
 use Rattle.signs.specs.declared.fault.SignFault.{SignFault}
@@ -12,12 +12,10 @@ use Rattle.signs.proofs.Verdict.{stray_in, long_in, Sound, Verdict, verdict}
 
 -- the faults of a whole text are those behind no name
 stray_whole : (text : List ℕ) (k : ℕ) → stray_at text k ≡ stray_in false text k
-stray_whole text zero = refl
-stray_whole text (suc k) = refl
+stray_whole text k = search rules
 
 long_whole : (text : List ℕ) (k : ℕ) → long_at text k ≡ long_in false text k
-long_whole text zero = refl
-long_whole text (suc k) = refl
+long_whole text k = search rules
 
 -- where a text has its first fault
 record FirstFault (text : List ℕ) (place : ℕ) : Type 0 where

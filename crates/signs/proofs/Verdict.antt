@@ -1,5 +1,5 @@
 -- The faults of a text, byte by byte from the left, against the list of its signs. Serves the theorems on refusals.
-use Rattle.std.proofs.Common.{◌≡◌, ℕ, zero, suc, ◌+◌, ◌<◌, Bool, true, false, cond, not, ◌&&◌, ltb, List, [], ◌∷◌, length, get_or, drop, Ok, Err, Result, sym, refl, ap, ◌∙◌, subst, add-zero, one-add, arith}
+use Rattle.std.proofs.Common.{◌≡◌, ℕ, zero, suc, ◌+◌, ◌<◌, Bool, true, false, cond, not, ◌&&◌, ltb, List, [], ◌∷◌, length, get_or, drop, Ok, Err, Result, sym, refl, ap, ◌∙◌, subst, add-zero, one-add, arith, rules}
 use lib.Dec.{leb-suc-suc, leb-suc-zero}
 use Rattle.std.specs.List.{prefix_len}
 use Rattle.std.proofs.lemmas.List.Folds.{length-prefix_len}
@@ -60,10 +60,7 @@ verdict_more inside place b bs (Err (NameTooLong at)) first v =
 
 -- a sign in front of a list changes no verdict
 verdict_then : (inside : Bool) (place : ℕ) (bs : List ℕ) (m : Mark) (r : Result (List Mark) SignFault) → Verdict inside place bs r → Verdict inside place bs (and_then (Ok m) r)
-verdict_then inside place bs m (Ok ms) v = v
-verdict_then inside place bs m (Err TextTooLong) v = v
-verdict_then inside place bs m (Err (StrayByte at)) v = v
-verdict_then inside place bs m (Err (NameTooLong at)) v = v
+verdict_then inside place bs m r v = search rules
 
 -- a first byte that is sound
 no_inner_no_letter : (b : ℕ) → inner b ≡ false → letter b ≡ false
