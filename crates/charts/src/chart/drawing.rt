@@ -50,6 +50,7 @@ impl ChartFlow {
                 mask,
                 action,
                 to,
+                // The numbers of a line that is within fit a byte, so `try_from` would add a refusal that never comes.
             } => self.arrows.push(Arrow {
                 from: from as u8,
                 mask,

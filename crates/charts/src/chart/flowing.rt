@@ -39,6 +39,7 @@ impl Flow for ChartFlow {
         START
     }
 
+    // Here and in `next` a code becomes an index by `as`, since `usize` has no `From` of 64 bits.
     fn accept(&self, code: u64) -> u64 {
         self.ends.get(code as usize).copied().unwrap_or(0)
     }
