@@ -1,8 +1,8 @@
 -- How a chart grows line by line, to what all its lines mean.
-use Rattle.std.proofs.Common.{◌≡◌, ℕ, ◌+◌, ◌^◌, ◌<◌, ◌≤◌, true, false, List, [], length, get_or, take, drop, replicate, Some, None, sym, refl, ap, ◌∙◌, subst, ⊎_elim, arith, pow_pos}
+use Rattle.std.proofs.Common.{◌≡◌, ℕ, ◌+◌, ◌^◌, ◌<◌, ◌≤◌, true, List, [], length, get_or, take, drop, replicate, Some, None, sym, refl, ap, ◌∙◌, subst, ⊎_elim, arith, pow_pos}
 use lib.Bits.{bit_or, or_zero_l, or_zero_r}
 use Rattle.std.proofs.lemmas.List.{at_drop_more, at_drop_all, get_or-replicate, get_or_past, length-replicate, take-replicate}
-use Rattle.std.proofs.lemmas.Bool.{cases_lt, cond-true, cond-false}
+use Rattle.std.proofs.lemmas.Bool.{cases_lt, cond-true}
 use Rattle.flows.specs.declared.counts.Counts.{Counts}
 use Rattle.charts.specs.Lines.{leads_to, ends_at}
 use Rattle.charts.specs.Charts.{state_flow, chart_meaning}
@@ -79,13 +79,6 @@ turn n k states lines place d before after so h inside grew =
       leads = λ state s a. grew.leads rest state s a ∙ sym (at_drop_more (λ ls. along before.arrows.items (leads_to ls state s a) state s a) lines place d h) ∙ so.leads state s a;
       ends = λ state. grew.ends rest state ∙ sym (at_drop_more (λ ls. bit_or (get_or before.ends.items state 0) (ends_at ls state)) lines place d h) ∙ so.ends state;
     }
-
--- The line at the place, if it is not within, is the first beyond.
-pub beyond_here : (n k states : ℕ) (lines : List Line) (place : ℕ) (d : Line) → first_beyond n k states place (drop place lines) ≡ first_beyond n k states 0 lines → place < length lines → line_within n k states (get_or lines place d) ≡ false → first_beyond n k states 0 lines ≡ Some place
-beyond_here n k states lines place d so h outside =
-    sym so
-    ∙ at_drop_more (first_beyond n k states place) lines place d h
-    ∙ cond-false _ (first_beyond n k states (place + 1) (drop (place + 1) lines)) (Some place) outside
 
 -- After the last line none was beyond.
 pub none_beyond_all : (n k states : ℕ) (lines : List Line) (place : ℕ) → first_beyond n k states place (drop place lines) ≡ first_beyond n k states 0 lines → length lines ≤ place → first_beyond n k states 0 lines ≡ None

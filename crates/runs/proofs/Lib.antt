@@ -20,5 +20,4 @@ pub mod Entries
 pub mod Lengths
 pub mod Trailing
 pub mod Following
-pub mod Leading
 pub mod Tracebacks

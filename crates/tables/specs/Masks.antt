@@ -54,15 +54,3 @@ follow_mask holds s p e = bits_below (λ q. some_at p (λ r. begins holds r s q)
 -- A row of masks, one for each place: those that may come next in a situation.
 abbrev pub FollowsFrom : (ℕ → ℕ → Bool) → ℕ → Term → List ℕ → Type 0
 FollowsFrom holds s e row = (p : ℕ) → p < 64 → slice_index row p ≡ follow_mask holds s p e
-
--- A table of masks, one for each of n situations: the places behind which a term may end.
-abbrev pub EndsTable : ℕ → (ℕ → ℕ → Bool) → Term → List ℕ → Type 0
-EndsTable n holds e table = (s : ℕ) → s < n → slice_index table s ≡ end_mask holds s e
-
--- A table of rows, one for each of n situations.
-abbrev pub FollowsTable : ℕ → (ℕ → ℕ → Bool) → Term → List (List ℕ) → Type 0
-FollowsTable n holds e table = (s : ℕ) → s < n → FollowsFrom holds s e (slice_index_or table s [])
-
--- A table of masks, one for each of k actions: its places.
-abbrev pub ActionsTable : ℕ → Term → List ℕ → Type 0
-ActionsTable k e table = (a : ℕ) → a < k → slice_index table a ≡ action_mask a e

@@ -61,4 +61,5 @@ returns-clause-nodes_afterwards c =
     let begun = c.in-Ok.ensures.begins_at_the_first_byte in
     let told = c.in_ok-choice.ensures in
     let whole = begun_choice means text nodes c.in-Ok.signs _ _ begun.1 begun.2 c.new-2.ensures.as_defined c.new-2.ensures.no_node told.as_defined in
-    rw (room means text nodes begun.0 (standing last) (granted_text means text nodes begun.0 (shape_at c.in_ok-choice.field-0 last) whole) (omega (arith, told.stays.room))).1 (search rules)
+    let lent = sym told.stays.lent in
+    rw ((room means text nodes begun.0 (standing last) (granted_text means text nodes begun.0 (shape_at c.in_ok-choice.field-0 last) whole) (omega (arith, told.stays.room))).1, ← c.keep.ensures) (search rules)
