@@ -9,7 +9,8 @@ use keys::find;
 use std::alloc::{AllocError, Global};
 use std::marker::Model;
 
-// The place of a name in a list of names.
+// The place of a name in a list of names. It stands apart, since in a method with a const parameter the proof sees nothing of
+// what `find` promises.
 fn place_in(names: &[Name], name: &Name) -> Option<usize>
     ensures value { result ≡ number_in (map bytes_of names.now) (bytes_of name.now) }
     ensures within { IfSome result (λ i. i < length names.now) }

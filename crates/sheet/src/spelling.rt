@@ -22,6 +22,7 @@ impl Name {
         (&mut kept[0..len]).copy_from_slice(bytes);
         Ok(Name {
             bytes: kept,
+            // Nothing is lost, as a name has at most 12 bytes.
             len: len as u8,
         })
     }

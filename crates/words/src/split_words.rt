@@ -5,7 +5,8 @@ ghost use Rattle.std.specs.List.{prefix_len};
 ghost use Rattle.words.specs.Words.{blank, in_word, words_of, Parted, WordRead, text_behind};
 ghost use Rattle.std.specs.Iterator.{at_most};
 
-// What is left of a line whose words are read one by one.
+// What is left of a line whose words are read one by one. It is no `Lines` with another byte in the line feed's place: blanks side
+// by side part two words as one does, while each line feed ends a line.
 #[derive(Drop)]
 pub struct Words<'a> {
     // The bytes right behind the last word read.
