@@ -1,4 +1,5 @@
-// The flows of the texts that the calls of a book are asked about.
+// The flows of the texts that the calls of a book are asked about. Two texts come as two arguments, as a caller has them: a struct
+// of both would be made for one call and taken apart in it.
 ghost use Rattle.std.specs.Prelude.{◌≡◌, IfOk};
 ghost use Rattle.places.specs.Meaning.{rule_meaning};
 ghost use Rattle.places.specs.Reading.{AllowsTheRunsOf, flow_on, meant};

@@ -11,7 +11,8 @@ mod counts;
 pub use allowing::allows;
 pub use counts::Counts;
 
-// Codes, with the situations accepted at each and the code that each action leads to in each situation.
+// Codes, with the situations accepted at each and the code that each action leads to in each situation. Situation and action come
+// as two numbers, as the bytes of a run have them.
 pub trait Flow {
     // What the flow means.
     ghost meaning: { Self → FlowMeaning };

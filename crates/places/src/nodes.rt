@@ -30,7 +30,8 @@ impl<'a> RuleNodes<'a> {
         masks[self.nodes.len().saturating_sub(1)]
     }
 
-    // A mask for each node, which a step tells from those of the nodes in front of it.
+    // A mask for each node, which a step tells from the node and the masks of those in front of it: they are together in this call
+    // alone, so they come one by one.
     pub(crate) fn masks<F: Fn(Node, &[u64]) -> u64>(&self, step: F) -> Masks
         requires callable { (node : _) (front : _) → length front.now < 256 → F.pre step node front }
         ensures upward { MadeUpward (F.post step) self.now.nodes.now result }

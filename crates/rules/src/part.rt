@@ -6,6 +6,7 @@ use signs::Sign;
 pub(crate) struct Built {
     // The place of its root among the nodes.
     pub(crate) root: u8,
+    // Whether it is a test. It has a root either way, so this is no `Option` of it.
     pub(crate) is_test: bool,
 }
 

@@ -21,7 +21,8 @@ pub use scale::Scale;
 #[cfg(test)]
 mod tests;
 
-// Some situations and some tests, each numbered from 0, and a yes or no for each of their pairs.
+// Some situations and some tests, each numbered from 0, and a yes or no for each of their pairs. Test and situation come as two
+// numbers, since every pair of them is asked.
 pub trait Vocabulary {
     // What the vocabulary means.
     ghost meaning: { Self → VocabularyMeaning };

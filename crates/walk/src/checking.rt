@@ -1,4 +1,5 @@
-// Whether a list of pairs shows that two flows allow the same runs. The list is only read.
+// Whether a list of pairs shows that two flows allow the same runs. The list is only read. A list and a pair of it are two
+// arguments: a struct of both would live for one call.
 ghost use Rattle.std.specs.Prelude.{◌≡◌, map};
 ghost use Rattle.runs.specs.Checks.{finding, leads_into};
 ghost use Rattle.runs.specs.Pairs.{is_among};

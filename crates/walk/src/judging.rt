@@ -1,4 +1,5 @@
-// Whether two flows allow the same runs.
+// Whether two flows allow the same runs. The flows, the table and the run buffer are each a thing of the caller's own, so they come
+// one by one.
 ghost use Rattle.std.specs.Prelude.{◌≡◌, length};
 ghost use Rattle.walk.specs.Judged.{buffer_after, judged, table_after};
 ghost use Rattle.walk.specs.Promises.{AListConvinces, IfDifferent, IfEqual, IfFull};
