@@ -31,3 +31,20 @@ pub fn put_number(out: &mut Vec<u8>, n: u64) -> Result<(), AllocError>
 {
     push_decimal(out, n)
 }
+
+#[cfg(test)]
+mod tests {
+    use super::{put, put_number, put_shown};
+    use std::test::Fail;
+
+    #[test]
+    fn pieces_stand_one_behind_the_other(rt: HostRuntime) -> Result<(), Fail> {
+        let mut out = Vec::new(rt.alloc());
+        put(&mut out, b"\xffa")?;
+        put_number(&mut out, 12)?;
+        let pairs = 7u8;
+        put_shown(&mut out, format_args!(" of {pairs};"))?;
+        assert_eq!(rt; out.as_slice(), b"\xffa12 of 7;".as_slice());
+        Ok(())
+    }
+}
