@@ -1,7 +1,7 @@
 -- The laws of chain, from those of joined runs.
 use Rattle.std.proofs.Common.{inl, inr}
 use Rattle.kat.specs.Algebra.{Allowed}
-use Rattle.kat.specs.Laws.{ChainLaws, ChainSplits, Holds, Within}
+use Rattle.kat.specs.Laws.{ChainLaws, Holds, Within}
 use Rattle.kat.specs.Terms.{Term, chain, choice}
 use Rattle.kat.proofs.Choosing.{choice_least}
 use Rattle.kat.proofs.Joining.{joined_left, joined_map, joined_right, single_first, first_single, single_last, last_single}
@@ -45,7 +45,3 @@ module _ (holds : Holds) where
           (chain_map f (choice e f) g g (λ run h. inr h) (λ run h. h)),
     );
   }
-
-  -- A run of a chain is joined of runs of its parts, by what a chain allows.
-  pub chain_splits : ChainSplits holds
-  chain_splits e f run h = h

@@ -99,10 +99,6 @@ any_joined t b c (suc n) =
 abbrev pub Left : (ℕ → ℕ) → ℕ → ℕ → ℕ → Type 0
 Left row code rest union = (q : ℕ) → (bit q union || reaches row rest q) ≡ reaches row code q
 
--- At first all places are left.
-pub all_left : (row : ℕ → ℕ) (code : ℕ) → Left row code code 0
-all_left row code q = ap (λ b. b || reaches row code q) (bit_zero q)
-
 module _ (row : ℕ → ℕ) (code rest union : ℕ) (left : Left row code rest union) where
   -- The lowest of them is joined in.
   pub lowest_joined : rest < 2 ^ 64 → (rest ≡ 0 → ⊥)

@@ -8,7 +8,6 @@ pub mod Upward
 pub mod Turns
 pub mod Marked
 pub mod Roots
-pub mod Filled
 pub mod Answers
 pub mod Clearing
 pub mod Tables

@@ -1,5 +1,5 @@
 -- The masks of a term: of the situations in which it passes, and of places.
-use Rattle.std.specs.Prelude.{◌≡◌, ℕ, ◌-◌, ◌<◌, Bool, List, [], length, slice_index, slice_index_or}
+use Rattle.std.specs.Prelude.{◌≡◌, ℕ, ◌-◌, ◌<◌, Bool, List, length, slice_index}
 use Rattle.masks.specs.Bits.{bits_below}
 use Rattle.kat.specs.Places.{begins, is_place_of, passes, places_in}
 use Rattle.kat.specs.Terms.{Term}

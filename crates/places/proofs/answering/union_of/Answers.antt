@@ -3,9 +3,6 @@ use Rattle.std.proofs.Common.{get_or, arith}
 use Rattle.tables.proofs.Clearing.{all_left, lowest_joined, none_left}
 use Rattle.places.proofs.answering.union_of.Goals as goal
 
-pub loop-rest-init : goal.loop-rest-init
-loop-rest-init c = all_left (λ p. get_or c.args.row.now p 0) c.args.code
-
 pub loop-rest-preserved : goal.loop-rest-preserved
 loop-rest-preserved c = lowest_joined (λ p. get_or c.args.row.now p 0) c.args.code c.loop-rest.rest c.loop-rest.union c.loop-rest.invariant (omega arith) c.loop-rest-test.true
 

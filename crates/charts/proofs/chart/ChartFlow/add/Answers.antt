@@ -5,17 +5,8 @@ use Rattle.charts.specs.Lines.{leads_to, ends_at}
 use Rattle.charts.specs.Kept.{along}
 use Rattle.charts.proofs.Arrows.{move_put}
 use Rattle.charts.proofs.Joins.{end_joined, joined_seen, joined_within}
-use Rattle.charts.proofs.Within.{move_within, end_within}
+use Rattle.charts.proofs.Within.{end_within}
 use Rattle.charts.proofs.chart.ChartFlow.add.Goals as goal
-
-pub overflow_cast-from : goal.overflow_cast-from
-overflow_cast-from c = let h = move_within _ _ _ _ _ _ _ _ c.in-Move.is c.requires.within in omega arith
-
-pub overflow_cast-to : goal.overflow_cast-to
-overflow_cast-to c = let h = move_within _ _ _ _ _ _ _ _ c.in-Move.is c.requires.within in omega arith
-
-pub invariant_of-push : goal.invariant_of-push
-invariant_of-push c = let h = move_within _ _ _ _ _ _ _ _ c.in-Move.is c.requires.within in record { short = omega arith }
 
 pub invariant_of-self-in-End : goal.invariant_of-self-in-End
 invariant_of-self-in-End c =
