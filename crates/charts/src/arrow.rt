@@ -13,7 +13,7 @@ pub struct Arrow {
     ghost short: { to ≤ 255 },
 }
 
-// What stands in each place that no move line has filled.
+// What stands in each place that no move line has filled. By hand, since a derive does not reach over a ghost field.
 impl Default for Arrow {
     fn default() -> Arrow {
         Arrow {

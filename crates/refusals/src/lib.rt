@@ -41,11 +41,12 @@ impl Display for Layer {
 #[derive(Clone, Copy, PartialEq, Eq, Debug)]
 pub struct Refusal {
     pub layer: Layer,
+    // It is what a caller is told, and what is printed, so it is kept as a number.
     pub number: u8,
     pub place: usize,
 }
 
-// A refusal is told by all three.
+// A refusal is told by its layer, its number and its place.
 impl Display for Refusal {
     ghost output = { λ refusal. Some (refusal_text refusal) };
 

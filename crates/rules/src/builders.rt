@@ -1,6 +1,7 @@
 // The four builders of a rule: a choice is of chains, a chain of steps, a step is a unit and the `*` behind it, and a
-// unit is a name, a word, a choice in brackets or a negated unit. They call each other in a cycle. How many levels may still
-// be opened is handed down, since only they know where a negated unit ends.
+// unit is a name, a word, a choice in brackets or a negated unit. They call each other in a cycle. Choice and chain read
+// alike and stay two, since each is a kind of part of its own. How many levels may still be opened is handed down, since only
+// the builders know where a negated unit ends.
 ghost use Rattle.std.specs.Prelude.{◌≡◌, ◌+◌, ◌<◌, ◌≤◌};
 ghost use Rattle.rules.specs.Builders.{Adds, ChainRead, ChoiceRead, NamedRead, NegatedRead, NotBack, OneMore, Onward, OnwardUnit, StarsRead, StepRead, UnitRead, joined_shape, shape_at};
 ghost use Rattle.rules.specs.Readers.{Stays};

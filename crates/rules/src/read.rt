@@ -29,7 +29,7 @@ pub fn read_rule<'t>(
     ensures granted_exactly_for_rules { GrantedExactlyForRules (means_of names.now) text.now }
     ensures nodes_give_the_term_back { LaidOutDecodes }
 {
-    // Wrapped by hand, since the reader that clears the nodes on its way out does not exist yet.
+    // The fault is wrapped by hand, since the reader that clears the nodes on its way out does not exist yet.
     let signs = match SignReader::new(text) {
         Ok(signs) => signs,
         Err(fault) => {

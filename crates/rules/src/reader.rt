@@ -67,7 +67,8 @@ impl<'t> Reader<'t, '_> {
         } = self;
     }
 
-    // Adds a node, the root of a part; where there is no room for it, it is only counted.
+    // Adds a node, the root of a part; where there is no room for it, it is only counted. That a sign was counted which has no
+    // node yet, no field can say: only whoever has just read the sign knows it.
     pub(crate) fn put(&mut self, node: Node, is_test: bool) -> Built
         requires { self.old.machine.nodes < self.old.machine.signs }
         ensures stays { Stays self.old self.new }

@@ -87,8 +87,6 @@ pub fn read_line<'a>(heap: Global, line: &'a [u8]) -> Result<Line<'a>, AllocErro
     let Some(keyword) = read_keyword(first) else {
         return Ok(Line::NotUnderstood);
     };
-    match command(heap, keyword, words.rest())? {
-        Some(command) => Ok(Line::Call(command)),
-        None => Ok(Line::NotUnderstood),
-    }
+    let command = command(heap, keyword, words.rest())?;
+    Ok(command.map_or(Line::NotUnderstood, Line::Call))
 }

@@ -23,7 +23,7 @@ impl Sheet {
         })
     }
 
-    // Names the next test, and answers its number.
+    // Names the next test, and answers its number. As on `Names`, the kind of name is told by the call.
     pub fn name_test(&mut self, name: &[u8]) -> Result<u8, NameFault>
         ensures answer { result ≡ name_test_on (sheet_of self.old) name.now }
         ensures after { sheet_of self.new ≡ (if is_ok result then with_test_named (sheet_of self.old) name.now else sheet_of self.old) }

@@ -3,8 +3,8 @@ ghost use Rattle.sheet.specs.Naming.{EachActionFound, EachTestFound};
 
 use crate::numbered::Numbered;
 
-// The names given so far, tests and actions each in the order of their numbers. Calls come in pairs, one for tests and one for
-// actions, each a line over the list of its kind. No two tests or actions share a name: each
+// The names given so far, tests and actions each in the order of their numbers. The calls come in pairs, one for tests and one
+// for actions: a caller names the kind by the call, and each is a line over the list of that kind. No two tests or actions share a name: each
 // is found by its name under its number.
 #[derive(Drop)]
 pub struct Names {

@@ -58,10 +58,8 @@ impl Names {
     pub fn find(&self, name: &Name) -> Option<Named>
         ensures { result ≡ found (names_of self.now) (bytes_of name.now) }
     {
-        match self.tests.number(name) {
-            Some(test) => Some(Named::Test(test)),
-            None => self.actions.number(name).map(Named::Action),
-        }
+        let test = self.tests.number(name).map(Named::Test);
+        test.or_else(|| self.actions.number(name).map(Named::Action))
     }
 
     // What the bytes name, if anything.

@@ -22,7 +22,7 @@ impl Name {
         (&mut kept[0..len]).copy_from_slice(bytes);
         Ok(Name {
             bytes: kept,
-            // Nothing is lost, as a name has at most 12 bytes.
+            // Nothing is lost, as a name has at most 12 bytes; a `try_from` would need an answer where it has more.
             len: len as u8,
         })
     }

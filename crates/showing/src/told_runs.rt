@@ -24,6 +24,7 @@ fn put_test(out: &mut Vec<u8>, first: bool, name: &[u8]) -> Result<(), AllocErro
 #[derive(Clone, Copy)]
 struct Telling<'a> {
     sheet: &'a Sheet,
+    // Whether situations are told in words; else they are told by number.
     words: bool,
 }
 

@@ -1,5 +1,5 @@
-// Runs of bytes of one kind in a text: where the blanks end, and how far a name goes. Each is asked of a text from a place on, since
-// signs and faults are told by their places in the whole text.
+// Runs of bytes of one kind in a text: where the blanks end, and how far a name goes. Each is asked of a text from a place on,
+// since signs and faults are told by their places in the whole text.
 ghost use Rattle.std.specs.Prelude.{◌≡◌, ◌+◌, drop};
 ghost use Rattle.std.specs.List.{prefix_len};
 ghost use Rattle.signs.specs.Runs.{blank, inner_part};

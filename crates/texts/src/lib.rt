@@ -25,7 +25,7 @@ pub fn put_shown<D: Display + Drop>(out: &mut Vec<u8>, value: D) -> Result<(), A
     out.extend_from_slice(text.as_bytes())
 }
 
-// A number in digits.
+// A number in digits, without its text being made first.
 pub fn put_number(out: &mut Vec<u8>, n: u64) -> Result<(), AllocError>
     ensures { OnOk result (Adds (decimal n) out.old.items out.new.items) }
 {

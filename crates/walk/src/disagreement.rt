@@ -1,4 +1,4 @@
-// When two flows disagree at a pair of codes: said here, and nowhere else.
+// When the accept masks of two flows disagree: said here, and nowhere else.
 ghost use Rattle.std.specs.Prelude.{◌≡◌};
 ghost use Rattle.runs.specs.Pairs.{disagree};
 

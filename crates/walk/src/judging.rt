@@ -1,5 +1,5 @@
-// Whether two flows allow the same runs. The flows, the table and the run buffer are each a thing of the caller's own, so they come
-// one by one.
+// Whether two flows allow the same runs. The flows, the table and the run buffer are each a thing of the caller's own, so
+// they come one by one.
 ghost use Rattle.std.specs.Prelude.{◌≡◌, length};
 ghost use Rattle.walk.specs.Judged.{buffer_after, judged, table_after};
 ghost use Rattle.walk.specs.Promises.{AListConvinces, IfDifferent, IfEqual, IfFull};
@@ -32,6 +32,7 @@ fn compare<F: Flow, G: Flow>(
     }
     clear(table);
     let sides = Sides::new(left, right)?;
+    // A refusal is passed on by hand, since the table is cleared behind it.
     let answer = match walk(&sides, table) {
         Ok(Ending::Equal(count)) => return Ok(Verdict::Equal(count)),
         Ok(Ending::Different(i)) => show(&sides, table, i, run),

@@ -32,7 +32,8 @@ pub(crate) fn show<F: Flow, G: Flow>(
     }
     let pair = table[i].pair;
     let mask = sides.left.accept(pair.left);
-    // The lowest situation that only one of the masks has. It is at most 64: a u8 holds it, and try_from would have an error that never is.
+    // The lowest situation that only one of the masks has. It is at most 64, so a byte holds it, and a `try_from` would need an
+    // answer where it does not.
     let last = (mask ^ sides.right.accept(pair.right)).trailing_zeros() as u8;
     trail.write_run(actions, last, run);
     let side = if masks::has(mask, last) {

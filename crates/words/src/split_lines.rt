@@ -44,10 +44,7 @@ impl<'a> Iterator for Lines<'a> {
             return None;
         }
         let (line, behind) = self.rest.split_at(line_len(self.rest));
-        self.rest = match behind.split_first() {
-            Some((_, rest)) => rest,
-            None => behind,
-        };
+        self.rest = behind.split_first().map_or(behind, |(_, rest)| rest);
         Some(line)
     }
 }

@@ -19,6 +19,7 @@ impl ChartFlow {
         ensures meaning { meant result ≡ chart_of counts.situations counts.actions states lines.now }
         ensures allows_exactly_the_runs_of_its_lines { AllowsRunsAlong counts.situations counts.actions lines.now (meant result) }
     {
+        // Numbers of states are made alike by `as`: 255 fits every type here, and a `try_from` would need an answer where it does not.
         if states < 1 || states > MOST_STATES as u64 || lines.len() > MOST_LINES {
             return Err(ChartFault::BeyondLimits);
         }
@@ -44,13 +45,13 @@ impl ChartFlow {
         requires room { length self.old.arrows.items < 256 }
         ensures grew { Grew self.old self.new line }
     {
+        // The numbers of a line that is within fit a byte, so a `try_from` would add a refusal that never comes.
         match line {
             Line::Move {
                 from,
                 mask,
                 action,
                 to,
-                // The numbers of a line that is within fit a byte, so `try_from` would add a refusal that never comes.
             } => self.arrows.push(Arrow {
                 from: from as u8,
                 mask,

@@ -39,7 +39,8 @@ impl Flow for ChartFlow {
         START
     }
 
-    // Here and in `next` a code becomes an index by `as`, since `usize` has no `From` of 64 bits.
+    // Here and in `next` a code becomes an index by `as`: `usize` has no `From` of 64 bits, and a `try_from` would need an answer
+    // where the code is larger.
     fn accept(&self, code: u64) -> u64 {
         self.ends.get(code as usize).copied().unwrap_or(0)
     }
