@@ -56,10 +56,8 @@ impl<const MOST: usize> Numbered<MOST> {
     pub(crate) fn name(&self, number: u8) -> &[u8]
         ensures at_its_place { result.now ≡ slice_index_or self.now number [] }
     {
-        match self.names.get(usize::from(number)) {
-            Some(name) => name.as_bytes(),
-            None => b"",
-        }
+        let name = self.names.get(usize::from(number));
+        name.map_or(b"".as_slice(), |name| name.as_bytes())
     }
 
     // The number of a name, if it is one of them.
