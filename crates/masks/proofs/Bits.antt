@@ -1,5 +1,5 @@
 -- A number made of answers has them as its bits, and a number is made of its bits.
-use Rattle.std.proofs.Common.{◌≡◌, ℕ, zero, suc, ◌+◌, ◌-◌, ◌*◌, ◌/◌, ◌%◌, ◌^◌, ◌<◌, ◌≤◌, Bool, true, false, cond, eqb, sym, refl, ap, ◌∙◌, subst, ⊎_elim, add-zero, mod-eq_of_lt, mul_assoc, mul_comm, add_comm, pow-suc, add-one, arith, pow_pos, pow_mono, pow-add}
+use Rattle.std.proofs.Common.{◌≡◌, ℕ, zero, suc, ◌+◌, ◌-◌, ◌*◌, ◌/◌, ◌%◌, ◌^◌, ◌<◌, Bool, true, false, cond, eqb, sym, refl, ap, ◌∙◌, subst, ⊎_elim, add-zero, mod-eq_of_lt, mul_assoc, mul_comm, add_comm, pow-suc, add-one, arith, pow_pos, pow-add}
 use native.Mathlib.Nat.{add-mul-div_right, add-mul-mod_self_right, mod-one}
 use lib.Pow.{high, mod-pow-add}
 use Rattle.std.proofs.lemmas.Nat.{one_shl}
@@ -110,9 +110,14 @@ pub bits_more_no : (f : ℕ → Bool) (n x : ℕ) → x ≡ bits_below f n → f
 unfolding bits_below
 bits_more_no f n x is e = rw add-one (sym (add-zero x) ∙ (λ i. is i + sym (cond-false (f n) (2 ^ n) 0 (sym e)) i))
 
--- With the bit at n the number still fits 64 bits.
-pub bits_more_fit : (f : ℕ → Bool) (n x : ℕ) → n < 64 → x ≡ bits_below f n → x + (1 * 2 ^ n) % 2 ^ 64 < 2 ^ 64
-bits_more_fit f n x h is =
-    let top : 2 ^ suc n ≤ 2 ^ 64 = pow_mono h in
-    let low : bits_below f n < 2 ^ n = bits_fit f n in
-    omega (arith, one_shl n 64 h, pow-suc 2 n)
+-- One bit more doubles what fits.
+room_doubles : (n : ℕ) → 2 ^ (n + 1) ≡ 2 ^ n * 2
+room_doubles n = rw add-one (pow-suc 2 n)
+
+-- A number of n bits, with the bit at n, fits n + 1 bits.
+pub fits_with_bit : (n x : ℕ) → n < 64 → x < 2 ^ n → x + (1 * 2 ^ n) % 2 ^ 64 < 2 ^ (n + 1)
+fits_with_bit n x h low = omega (arith, one_shl n 64 h, room_doubles n)
+
+-- A number of n bits fits n + 1 bits.
+pub fits_without_bit : (n x : ℕ) → x < 2 ^ n → x < 2 ^ (n + 1)
+fits_without_bit n x low = omega (arith, room_doubles n)

@@ -6,6 +6,7 @@ ghost use Rattle.places.specs.Meaning.{rule_lawful, rule_meaning};
 
 use crate::flow::{PLACES, RuleFlow};
 use flows::Flow;
+use masks::mask_where;
 
 // The union of a row's masks at the places that a code marks.
 fn union_of(row: &[u64; PLACES], code: u64) -> u64
@@ -39,13 +40,7 @@ impl Flow for RuleFlow {
     }
 
     fn accept(&self, code: u64) -> u64 {
-        let mut accepted = 0;
-        for s in 0..self.counts.situations {
-            if code & self.ends[usize::from(s)] != 0 {
-                accepted += 1 << s;
-            }
-        }
-        accepted
+        mask_where(self.situations(), |s| code & self.ends[usize::from(s)] != 0)
     }
 
     fn next(&self, code: u64, situation: u8, action: u8) -> u64 {

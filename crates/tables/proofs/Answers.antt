@@ -1,7 +1,7 @@
 -- What the flow of the tables answers, bit by bit.
-use Rattle.std.proofs.Common.{◌≡◌, ℕ, zero, suc, ◌^◌, ◌<◌, Bool, true, false, ◌&&◌, ◌||◌, sym, refl, ap, ◌∙◌, ap₂, ⊎_elim, arith}
+use Rattle.std.proofs.Common.{◌≡◌, ℕ, zero, suc, ◌^◌, ◌<◌, Bool, true, false, ◌&&◌, ◌||◌, eqb, not, sym, refl, ap, ◌∙◌, ap₂, ⊎_elim, arith}
 use lib.Bits.{and_le_l, and_le_r, bit_and}
-use Rattle.std.proofs.lemmas.Bool.{cases_Bool, cases_eq, or_parts}
+use Rattle.std.proofs.lemmas.Bool.{cases_Bool, cases_eq, ne_eqb, or_parts}
 use Rattle.masks.specs.Bits.{bit}
 use Rattle.masks.proofs.Bits.{bit_of_bits, bits_fit, bits_of_fitting, no_bits}
 use Rattle.masks.proofs.Operations.{bit-and, bit_zero, bits_same}
@@ -26,10 +26,10 @@ any_no f (suc n) never = ap₂ ◌||◌ (any_no f n (λ p h. never p (omega arit
 shares_bits : (code mask : ℕ) → shares code mask ≡ any_below (λ p. bit p (bit_and code mask)) 64
 shares_bits code mask = any_same (λ p. bit p code && bit p mask) (λ p. bit p (bit_and code mask)) 64 (λ p h. sym (bit-and p code mask))
 
-pub shares_none : (code mask : ℕ) → bit_and code mask ≡ 0 → shares code mask ≡ false
+shares_none : (code mask : ℕ) → bit_and code mask ≡ 0 → shares code mask ≡ false
 shares_none code mask none = shares_bits code mask ∙ any_no (λ p. bit p (bit_and code mask)) 64 (λ p h. ap (bit p) none ∙ bit_zero p)
 
-pub shares_some : (code mask : ℕ) → code < 2 ^ 64 → (bit_and code mask ≡ 0 → ⊥) → shares code mask ≡ true
+shares_some : (code mask : ℕ) → code < 2 ^ 64 → (bit_and code mask ≡ 0 → ⊥) → shares code mask ≡ true
 shares_some code mask fits some =
     ⊎_elim
     (λ (some-shared : shares code mask ≡ true). some-shared)
@@ -39,6 +39,14 @@ shares_some code mask fits some =
     let zero_bits = any_false (λ p. bit p x) 64 (sym (shares_bits code mask) ∙ none-shared) in
     absurd (some (sym (bits_of_fitting x 64 below) ∙ no_bits (λ p. bit p x) 64 zero_bits)))
     (cases_Bool (shares code mask))
+
+-- So the code may ask whether it is 0.
+pub shares_asked : (code mask : ℕ) → code < 2 ^ 64 → not (eqb (bit_and code mask) 0) ≡ shares code mask
+shares_asked code mask fits =
+    ⊎_elim
+    (λ (none : bit_and code mask ≡ 0). ap (λ x. not (eqb x 0)) none ∙ sym (shares_none code mask none))
+    (λ (some : bit_and code mask ≡ 0 → ⊥). ap not (ne_eqb (bit_and code mask) 0 some) ∙ sym (shares_some code mask fits some))
+    (cases_eq (bit_and code mask) 0)
 
 -- The next code, from what the row reaches.
 pub next_masked : (row : ℕ → ℕ) (own code reached : ℕ) → reached < 2 ^ 64 → ((q : ℕ) → bit q reached ≡ reaches row code q) → bit_and own reached ≡ next_by row own code

@@ -6,19 +6,13 @@ ghost use Rattle.vocabulary.specs.Masks.{mask_of};
 
 use crate::Vocabulary;
 use crate::copied::{Copied, MASKS};
-use masks::has;
+use masks::{has, mask_where};
 
 // The situations of a vocabulary in which a test holds, a bit for each.
 fn mask_of<V: Vocabulary>(v: &V, test: u8) -> u64
     ensures mask { result ≡ mask_of (V.Vocabulary.meaning v.now) test }
 {
-    let mut mask = 0;
-    for s in 0..v.situations() {
-        if v.holds(test, s) {
-            mask += 1 << s;
-        }
-    }
-    mask
+    mask_where(v.situations(), |s| v.holds(test, s))
 }
 
 impl Copied {

@@ -1,6 +1,6 @@
 -- Each turn joins in the mask of the lowest place that is left.
 use Rattle.std.proofs.Common.{get_or, arith}
-use Rattle.tables.proofs.Clearing.{all_left, lowest_joined, none_left}
+use Rattle.tables.proofs.Clearing.{lowest_joined, none_left}
 use Rattle.places.proofs.answering.union_of.Goals as goal
 
 pub loop-rest-preserved : goal.loop-rest-preserved
