@@ -47,13 +47,13 @@ impl Passing<'_> {
             first: self.first_masks(s),
             last: self.last_masks(s),
         };
-        table_of(64, 0, |p| self.rule.following(&edges, p))
+        table_of(PLACES as u8, 0, |p| self.rule.following(&edges, p))
     }
 }
 
 impl RuleFlow {
-    // Prepares the flow of the rule that stands in nodes, over the situations of a sheet and the actions that are named on it. The
-    // last node is the rule's root; nodes behind the first 256, which no part can name, are not looked at.
+    // Prepares the flow of the rule that stands in nodes, over the situations of a sheet and the actions that are named on
+    // it. The last node is the rule's root; nodes behind the first 256, which no part can name, are not looked at.
     pub fn over(nodes: &[Node], sheet: &Sheet) -> RuleFlow
         ensures as_its_places { IsThePlacesOf (sheet_of sheet.now) (term_of (take 256 nodes.now)) (rule_meaning result) }
     {

@@ -4,7 +4,7 @@ use Rattle.places.proofs.Upward.{none_made, more_made}
 use Rattle.places.proofs.nodes.RuleNodes.masks.Goals as goal
 
 pub loop-i-init : goal.loop-i-init
-loop-i-init g c = none_made (goal.F-post g c.args.step) c.args.self.now.nodes.now
+loop-i-init g c = none_made (goal.F-post g c.args.tell) c.args.self.now.nodes.now
 
 pub loop-i-preserved : goal.loop-i-preserved
-loop-i-preserved g c = more_made (goal.F-post g c.args.step) c.args.self.now.nodes.now c.loop-i.i c.step.result c.loop-i.masks _ (omega arith) c.loop-i.invariant refl c.step.ensures
+loop-i-preserved g c = more_made (goal.F-post g c.args.tell) c.args.self.now.nodes.now c.loop-i.i c.tell.result c.loop-i.masks _ (omega arith) c.loop-i.invariant refl refl c.tell.ensures

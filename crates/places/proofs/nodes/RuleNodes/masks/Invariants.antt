@@ -3,4 +3,4 @@ use Rattle.places.proofs.Upward.{MadeSofar}
 use Rattle.places.proofs.nodes.RuleNodes.masks.Given as goal
 
 abbrev pub invariant-loop-i : goal.invariant-loop-i
-invariant-loop-i g l = MadeSofar (goal.F-post g l.step) l.self.nodes.now l.i l.masks
+invariant-loop-i g l = MadeSofar (goal.F-post g l.tell) l.self.nodes.now l.i l.masks

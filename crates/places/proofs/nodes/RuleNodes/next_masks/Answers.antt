@@ -1,6 +1,5 @@
 -- Each node goes on as its parts do, and where they join.
 use Rattle.std.proofs.Common.{◌≡◌, length, get_or, take, arith, rules}
-use Rattle.rules.specs.declared.node.Node.TheVariants.{Empty}
 use Rattle.tables.specs.Parts.{next_node}
 use Rattle.tables.proofs.Turns.{next_told}
 use Rattle.tables.proofs.Upward.{part_in}
@@ -20,6 +19,6 @@ returns c =
           (λ k lt.
           let at = upward.made k lt in
           let told = at.told in
-          let gave : get_or masks k 0 ≡ next_node c.args.p (λ q. get_or (take (length at.front.now) first) q 0) (λ q. get_or (take (length at.front.now) last) q 0) (λ q. get_or at.front.now q 0) (get_or nodes k Empty) = search rules in
+          let gave : get_or masks k 0 ≡ next_node c.args.p (λ q. get_or (take (length at.step.front.now) first) q 0) (λ q. get_or (take (length at.step.front.now) last) q 0) (λ q. get_or at.step.front.now q 0) at.step.node = search rules in
           told_at (λ i. next_node c.args.p (part_in first i) (part_in last i)) _ nodes masks k at (omega (arith, upward.long)) gave);
     }

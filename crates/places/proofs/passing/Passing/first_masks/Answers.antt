@@ -1,6 +1,5 @@
 -- Each node begins with the places of its parts, by those in front of it that pass.
 use Rattle.std.proofs.Common.{◌≡◌, length, get_or, take, arith, rules}
-use Rattle.rules.specs.declared.node.Node.TheVariants.{Empty}
 use Rattle.tables.specs.Parts.{first_node}
 use Rattle.tables.proofs.Turns.{first_told}
 use Rattle.tables.proofs.Upward.{part_in}
@@ -19,6 +18,6 @@ returns c =
           (λ k lt.
           let at = upward.made k lt in
           let told = at.told in
-          let gave : get_or masks k 0 ≡ first_node c.args.s (λ p. get_or (take (length at.front.now) pass) p 0) (λ p. get_or at.front.now p 0) (get_or nodes k Empty) = search rules in
+          let gave : get_or masks k 0 ≡ first_node c.args.s (λ p. get_or (take (length at.step.front.now) pass) p 0) (λ p. get_or at.step.front.now p 0) at.step.node = search rules in
           told_at (λ i. first_node c.args.s (part_in pass i)) _ nodes masks k at (omega (arith, upward.long)) gave);
     }

@@ -1,7 +1,6 @@
 -- Each node passes as its parts do.
 use Rattle.std.proofs.Common.{◌≡◌, true, get_or, ap, ◌∙◌, arith, rules}
 use Rattle.masks.specs.Bits.{bits_below}
-use Rattle.rules.specs.declared.node.Node.TheVariants.{Empty}
 use Rattle.tables.specs.Parts.{pass_node}
 use Rattle.tables.proofs.Turns.{pass_told}
 use Rattle.vocabulary.specs.Copies.{copied_meaning, copied_lawful}
@@ -20,5 +19,5 @@ returns-clause-passing c =
     (λ k lt.
     let at = upward.made k lt in
     let told = at.told in
-    let gave : get_or masks k 0 ≡ pass_node c.all_of-all.result (λ t. bits_below (m.holds t) m.situations) (λ p. get_or at.front.now p 0) (get_or nodes k Empty) = search rules in
-    told_at (λ i. step) _ nodes masks k at (omega (arith, upward.long)) (gave ∙ ap (λ all. pass_node all (λ t. bits_below (m.holds t) m.situations) (λ p. get_or at.front.now p 0) (get_or nodes k Empty)) whole))
+    let gave : get_or masks k 0 ≡ pass_node c.all_of-all.result (λ t. bits_below (m.holds t) m.situations) (λ p. get_or at.step.front.now p 0) at.step.node = search rules in
+    told_at (λ i. step) _ nodes masks k at (omega (arith, upward.long)) (gave ∙ ap (λ all. pass_node all (λ t. bits_below (m.holds t) m.situations) (λ p. get_or at.step.front.now p 0) at.step.node) whole))
