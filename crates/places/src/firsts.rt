@@ -11,7 +11,7 @@ use rules::Node;
 
 // The places that a node begins with, by those of the nodes in front of it and by the situations in which these pass.
 pub(crate) fn first_node(at: Step<'_>, s: u8, pass: &Masks) -> u64
-    ensures told { result ≡ first_node s (slice_index (take (length at.entry.front.now) pass.now)) (slice_index at.entry.front.now) at.entry.node }
+    ensures told { result ≡ first_node s (slice_index (take (length at.entry.front.now) pass.now.items)) (slice_index at.entry.front.now) at.entry.node }
 {
     match at.node {
         Node::Empty | Node::Test(_) | Node::Skip | Node::Stop | Node::Not(_) => 0,
@@ -32,7 +32,7 @@ pub(crate) fn first_node(at: Step<'_>, s: u8, pass: &Masks) -> u64
 impl Passing<'_> {
     // The places that each node begins with in a situation.
     pub(crate) fn first_masks(&self, s: u8) -> Masks
-        ensures begun { WherePasses self.now.rule.nodes.now self.now.pass s (λ holds. Tells (first_mask holds s) self.now.rule.nodes.now result) }
+        ensures begun { WherePasses self.now.rule.nodes.now self.now.pass.items s (λ holds. Tells (first_mask holds s) self.now.rule.nodes.now result.items) }
     {
         self.rule.masks(|at| first_node(at, s, &self.pass))
     }

@@ -22,7 +22,7 @@ fn turned(node: Node) -> Node
 impl Passing<'_> {
     // The places behind which each node may end in a situation.
     pub(crate) fn last_masks(&self, s: u8) -> Masks
-        ensures ended { WherePasses self.now.rule.nodes.now self.now.pass s (λ holds. Tells (last_mask holds s) self.now.rule.nodes.now result) }
+        ensures ended { WherePasses self.now.rule.nodes.now self.now.pass.items s (λ holds. Tells (last_mask holds s) self.now.rule.nodes.now result.items) }
     {
         self.rule.masks(|at| {
             let turned = Step {

@@ -20,7 +20,7 @@ pub(crate) struct Edges {
 impl Edges {
     // The places behind part `a` of a node that its part `b` begins with, where the one may end behind place `p`.
     fn joint(&self, at: Step<'_>, p: u8, a: u8, b: u8) -> u64
-        ensures joined { result ≡ (if bit p (slice_index (take (length at.entry.front.now) self.now.last) a) then slice_index (take (length at.entry.front.now) self.now.first) b else 0) }
+        ensures joined { result ≡ (if bit p (slice_index (take (length at.entry.front.now) self.now.last.items) a) then slice_index (take (length at.entry.front.now) self.now.first.items) b else 0) }
     {
         if has(at.part_in(&self.last, a), p) {
             at.part_in(&self.first, b)
@@ -32,7 +32,7 @@ impl Edges {
 
 // The places to which a node may go on from place `p`, by those of the nodes in front of it.
 fn next_node(at: Step<'_>, p: u8, edges: &Edges) -> u64
-    ensures told { result ≡ next_node p (slice_index (take (length at.entry.front.now) edges.now.first)) (slice_index (take (length at.entry.front.now) edges.now.last)) (slice_index at.entry.front.now) at.entry.node }
+    ensures told { result ≡ next_node p (slice_index (take (length at.entry.front.now) edges.now.first.items)) (slice_index (take (length at.entry.front.now) edges.now.last.items)) (slice_index at.entry.front.now) at.entry.node }
 {
     match at.node {
         Node::Choice(a, b) => at.part(a) | at.part(b),
@@ -46,7 +46,7 @@ impl RuleNodes<'_> {
     // The places to which each node may go on from place `p`.
     pub(crate) fn next_masks(&self, edges: &Edges, p: u8) -> Masks
         requires of_place { p < 64 }
-        ensures gone_on { WhereKnown self.now.nodes.now edges.now.first edges.now.last (λ holds s. Tells (next_mask holds s p) self.now.nodes.now result) }
+        ensures gone_on { WhereKnown self.now.nodes.now edges.now.first.items edges.now.last.items (λ holds s. Tells (next_mask holds s p) self.now.nodes.now result.items) }
     {
         self.masks(|at| next_node(at, p, edges))
     }

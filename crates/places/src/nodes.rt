@@ -26,22 +26,26 @@ impl<'a> RuleNodes<'a> {
 
     // The mask of the root.
     pub(crate) fn at_root(&self, masks: &Masks) -> u64
-        ensures of_last { result ≡ slice_index masks.now (length self.now.nodes.now - 1) }
+        ensures of_last { result ≡ slice_index masks.now.items (length self.now.nodes.now - 1) }
     {
-        masks[self.nodes.len().saturating_sub(1)]
+        masks
+            .get(self.nodes.len().saturating_sub(1))
+            .copied()
+            .unwrap_or(0)
     }
 
     // A mask for each node, told step by step from the first on.
     pub(crate) fn masks<F: Fn(Step<'_>) -> u64>(&self, tell: F) -> Masks
         requires callable { (at : _) → F.pre tell at }
-        ensures upward { MadeUpward (F.post tell) self.now.nodes.now result }
+        ensures upward { MadeUpward (F.post tell) self.now.nodes.now result.items }
     {
-        let mut masks = [0; NODES];
-        for (i, node) in self.nodes.iter().enumerate() {
-            masks[i] = tell(Step {
+        let mut masks = Masks::new();
+        for node in self.nodes {
+            let mask = tell(Step {
                 node: *node,
-                front: &masks[..i],
+                front: &masks,
             });
+            masks.push(mask);
         }
         masks
     }

@@ -46,7 +46,7 @@ impl<'a> Passing<'a> {
     // The nodes with the situations of a vocabulary.
     pub(crate) fn of(rule: RuleNodes<'a>, vocabulary: &Copied) -> Passing<'a>
         ensures same_nodes { result.rule.nodes.now ≡ rule.entry.nodes.now }
-        ensures passing { Tells (pass_mask (copied_meaning vocabulary.now).situations (copied_meaning vocabulary.now).holds) result.rule.nodes.now result.pass }
+        ensures passing { Tells (pass_mask (copied_meaning vocabulary.now).situations (copied_meaning vocabulary.now).holds) result.rule.nodes.now result.pass.items }
     {
         let all = all_of(vocabulary.situations());
         Passing {

@@ -21,10 +21,10 @@ impl Step<'_> {
         part(self.front, place)
     }
 
-    // The mask of a part in other masks of the same nodes.
+    // The mask of a part in other masks, of which no more are looked at than stand in front of this node.
     pub(crate) fn part_in(&self, masks: &Masks, place: u8) -> u64
-        ensures { result ≡ slice_index (take (length self.now.front.now) masks.now) place }
+        ensures { result ≡ slice_index (take (length self.now.front.now) masks.now.items) place }
     {
-        part(&masks[..self.front.len()], place)
+        part(&masks[..self.front.len().min(masks.len())], place)
     }
 }

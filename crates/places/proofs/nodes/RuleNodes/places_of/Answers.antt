@@ -2,15 +2,15 @@
 use Rattle.std.proofs.Common.{◌≡◌, ◌-◌, ◌∙◌, length, get_or, arith, rules}
 use Rattle.tables.specs.Parts.{action_node}
 use Rattle.tables.proofs.Turns.{action_told}
-use Rattle.places.proofs.Upward.{told_at}
+use Rattle.places.proofs.Upward.{none_behind, told_at}
 use Rattle.places.proofs.nodes.RuleNodes.places_of.Goals as goal
 
 pub returns : goal.returns
 returns c =
     let nodes = c.args.self.now.nodes.now in
-    let masks = c.masks.result in
+    let masks = c.masks.result.items in
     let upward = c.masks.ensures.upward in
-    let tells = action_told nodes masks upward.blank c.args.action
+    let tells = action_told nodes masks (none_behind _ nodes masks upward) c.args.action
     (λ k lt.
     let at = upward.made k lt in
     let told = at.told in
