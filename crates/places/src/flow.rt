@@ -11,8 +11,8 @@ pub(crate) const SITUATIONS: usize = 64;
 // How many actions there are room for.
 pub(crate) const ACTIONS: usize = 16;
 
-// Masks of places: a code marks places, and what comes next is read off the masks of the marked ones. The tables have room for
-// all that there can be, since a flow takes no memory from a heap.
+// Masks of places: a code marks places, and what comes next is read off the masks of the marked ones. The tables have room
+// for all that there can be, since a flow takes no memory from a heap.
 #[derive(Drop)]
 pub struct RuleFlow {
     // How many situations and actions there are.

@@ -6,6 +6,7 @@ ghost use Rattle.tables.specs.Parts.{first_node, last_node};
 use crate::firsts::first_node;
 use crate::parts::Masks;
 use crate::passing::Passing;
+use crate::step::Step;
 use rules::Node;
 
 // A chain with its parts the other way round, which begins as the chain ends; any other node ends as it begins.
@@ -21,8 +22,14 @@ fn turned(node: Node) -> Node
 impl Passing<'_> {
     // The places behind which each node may end in a situation.
     pub(crate) fn last_masks(&self, s: u8) -> Masks
-        ensures ended { WherePasses self.now.rule.nodes.now self.now.pass s (λ holds. Tells (last_mask holds s) self.now.rule.nodes.now result) }
+        ensures ended { WherePasses self.now.rule.nodes.now self.now.pass.items s (λ holds. Tells (last_mask holds s) self.now.rule.nodes.now result.items) }
     {
-        self.rule.masks(|node, front| first_node(turned(node), s, &self.pass[..front.len()], front))
+        self.rule.masks(|at| {
+            let turned = Step {
+                node: turned(at.node),
+                front: at.front,
+            };
+            first_node(turned, s, &self.pass)
+        })
     }
 }

@@ -14,5 +14,6 @@ mod parts;
 mod passing;
 mod preparing;
 mod reading;
+mod step;
 
 pub use flow::RuleFlow;

@@ -1,8 +1,9 @@
 // The nodes of a rule, and the masks that are told of them from the first on.
-ghost use Rattle.std.specs.Prelude.{◌≡◌, ◌≤◌, ◌-◌, ◌<◌, length, take, slice_index};
+ghost use Rattle.std.specs.Prelude.{◌≡◌, ◌≤◌, ◌-◌, length, take, slice_index};
 ghost use Rattle.places.specs.Upward.{MadeUpward};
 
 use crate::parts::{Masks, NODES};
+use crate::step::Step;
 use rules::Node;
 
 // The nodes of a rule that are looked at; the last is its root.
@@ -25,20 +26,26 @@ impl<'a> RuleNodes<'a> {
 
     // The mask of the root.
     pub(crate) fn at_root(&self, masks: &Masks) -> u64
-        ensures of_last { result ≡ slice_index masks.now (length self.now.nodes.now - 1) }
+        ensures of_last { result ≡ slice_index masks.now.items (length self.now.nodes.now - 1) }
     {
-        masks[self.nodes.len().saturating_sub(1)]
+        masks
+            .get(self.nodes.len().saturating_sub(1))
+            .copied()
+            .unwrap_or(0)
     }
 
-    // A mask for each node, which a step tells from the node and the masks of those in front of it: they are together in this call
-    // alone, so they come one by one.
-    pub(crate) fn masks<F: Fn(Node, &[u64]) -> u64>(&self, step: F) -> Masks
-        requires callable { (node : _) (front : _) → length front.now < 256 → F.pre step node front }
-        ensures upward { MadeUpward (F.post step) self.now.nodes.now result }
+    // A mask for each node, told step by step from the first on.
+    pub(crate) fn masks<F: Fn(Step<'_>) -> u64>(&self, tell: F) -> Masks
+        requires callable { (at : _) → F.pre tell at }
+        ensures upward { MadeUpward (F.post tell) self.now.nodes.now result.items }
     {
-        let mut masks = [0; NODES];
-        for (i, node) in self.nodes.iter().enumerate() {
-            masks[i] = step(*node, &masks[..i]);
+        let mut masks = Masks::new();
+        for node in self.nodes {
+            let mask = tell(Step {
+                node: *node,
+                front: &masks,
+            });
+            masks.push(mask);
         }
         masks
     }

@@ -4,17 +4,18 @@ ghost use Rattle.tables.specs.Masks.{action_mask, term_of};
 ghost use Rattle.tables.specs.Parts.{action_node};
 
 use crate::nodes::RuleNodes;
-use crate::parts::{part, place_bit};
+use crate::parts::place_bit;
+use crate::step::Step;
 use rules::Node;
 
 // The places of an action in a node, by those in the nodes in front of it.
-fn action_node(node: Node, action: u8, front: &[u64]) -> u64
-    ensures told { result ≡ action_node action (slice_index front.now) node }
+fn action_node(at: Step<'_>, action: u8) -> u64
+    ensures told { result ≡ action_node action (slice_index at.entry.front.now) at.entry.node }
 {
-    match node {
+    match at.node {
         Node::Action(a, p) => if a == action { place_bit(p) } else { 0 },
-        Node::Choice(a, b) | Node::Chain(a, b) => part(front, a) | part(front, b),
-        Node::Star(a) => part(front, a),
+        Node::Choice(a, b) | Node::Chain(a, b) => at.part(a) | at.part(b),
+        Node::Star(a) => at.part(a),
         _ => 0,
     }
 }
@@ -24,6 +25,6 @@ impl RuleNodes<'_> {
     pub(crate) fn places_of(&self, action: u8) -> u64
         ensures owned { result ≡ action_mask action (term_of self.now.nodes.now) }
     {
-        self.at_root(&self.masks(|node, front| action_node(node, action, front)))
+        self.at_root(&self.masks(|at| action_node(at, action)))
     }
 }

@@ -2,11 +2,13 @@
 ghost use Rattle.std.specs.Prelude.{◌≡◌, slice_index};
 ghost use Rattle.tables.specs.Parts.{place_bit};
 
+use arrayvec::ArrayVec;
+
 // How many nodes are looked at: as many as a part can name.
 pub(crate) const NODES: usize = 256;
 
 // A mask for each node.
-pub(crate) type Masks = [u64; NODES];
+pub(crate) type Masks = ArrayVec<u64, NODES>;
 
 // The mask of a part, among those of the nodes in front; one that does not stand there has no bit.
 pub(crate) fn part(front: &[u64], place: u8) -> u64

@@ -7,7 +7,8 @@ ghost use Rattle.vocabulary.specs.Copies.{copied_meaning};
 ghost use Rattle.vocabulary.specs.Masks.{mask_of};
 
 use crate::nodes::RuleNodes;
-use crate::parts::{Masks, part};
+use crate::parts::Masks;
+use crate::step::Step;
 use rules::Node;
 use vocabulary::{Copied, Vocabulary};
 
@@ -21,16 +22,16 @@ fn all_of(situations: u8) -> u64
 }
 
 // The situations in which a node passes, by those of the nodes in front of it.
-fn pass_node(node: Node, front: &[u64], vocabulary: &Copied, all: u64) -> u64
-    ensures told { result ≡ pass_node all (mask_of (copied_meaning vocabulary.now)) (slice_index front.now) node }
+fn pass_node(at: Step<'_>, vocabulary: &Copied, all: u64) -> u64
+    ensures told { result ≡ pass_node all (mask_of (copied_meaning vocabulary.now)) (slice_index at.entry.front.now) at.entry.node }
 {
-    match node {
+    match at.node {
         Node::Empty | Node::Action(_, _) | Node::Stop => 0,
         Node::Test(t) => vocabulary.mask(t),
         Node::Skip | Node::Star(_) => all,
-        Node::Not(a) => all & !part(front, a),
-        Node::Choice(a, b) => part(front, a) | part(front, b),
-        Node::Chain(a, b) => part(front, a) & part(front, b),
+        Node::Not(a) => all & !at.part(a),
+        Node::Choice(a, b) => at.part(a) | at.part(b),
+        Node::Chain(a, b) => at.part(a) & at.part(b),
     }
 }
 
@@ -45,12 +46,12 @@ impl<'a> Passing<'a> {
     // The nodes with the situations of a vocabulary.
     pub(crate) fn of(rule: RuleNodes<'a>, vocabulary: &Copied) -> Passing<'a>
         ensures same_nodes { result.rule.nodes.now ≡ rule.entry.nodes.now }
-        ensures passing { Tells (pass_mask (copied_meaning vocabulary.now).situations (copied_meaning vocabulary.now).holds) result.rule.nodes.now result.pass }
+        ensures passing { Tells (pass_mask (copied_meaning vocabulary.now).situations (copied_meaning vocabulary.now).holds) result.rule.nodes.now result.pass.items }
     {
         let all = all_of(vocabulary.situations());
         Passing {
             rule,
-            pass: rule.masks(|node, front| pass_node(node, front, vocabulary, all)),
+            pass: rule.masks(|at| pass_node(at, vocabulary, all)),
         }
     }
 }

@@ -19,7 +19,7 @@ impl RuleNodes<'_> {
     // The places that may come next behind place `p`; behind the start they are those that the rule begins with.
     fn following(&self, edges: &Edges, p: u8) -> u64
         requires of_place { p < 64 }
-        ensures followed { WhereKnown self.now.nodes.now edges.now.first edges.now.last (λ holds s. result ≡ follow_mask holds s p (term_of self.now.nodes.now)) }
+        ensures followed { WhereKnown self.now.nodes.now edges.now.first.items edges.now.last.items (λ holds s. result ≡ follow_mask holds s p (term_of self.now.nodes.now)) }
     {
         let begun = if p == 0 {
             self.at_root(&edges.first)
@@ -33,7 +33,7 @@ impl RuleNodes<'_> {
 impl Passing<'_> {
     // The places behind which the rule may end in a situation; the start is one of them where the rule passes.
     fn ends_in(&self, s: u8) -> u64
-        ensures ended { WherePasses self.now.rule.nodes.now self.now.pass s (λ holds. result ≡ end_mask holds s (term_of self.now.rule.nodes.now)) }
+        ensures ended { WherePasses self.now.rule.nodes.now self.now.pass.items s (λ holds. result ≡ end_mask holds s (term_of self.now.rule.nodes.now)) }
     {
         let start = u64::from(has(self.rule.at_root(&self.pass), s));
         start | self.rule.at_root(&self.last_masks(s))
@@ -41,19 +41,19 @@ impl Passing<'_> {
 
     // For each place, those that may come next in a situation.
     fn follows_in(&self, s: u8) -> [u64; PLACES]
-        ensures followed { WherePasses self.now.rule.nodes.now self.now.pass s (λ holds. FollowsFrom holds s (term_of self.now.rule.nodes.now) result) }
+        ensures followed { WherePasses self.now.rule.nodes.now self.now.pass.items s (λ holds. FollowsFrom holds s (term_of self.now.rule.nodes.now) result) }
     {
         let edges = Edges {
             first: self.first_masks(s),
             last: self.last_masks(s),
         };
-        table_of(64, 0, |p| self.rule.following(&edges, p))
+        table_of(PLACES as u8, 0, |p| self.rule.following(&edges, p))
     }
 }
 
 impl RuleFlow {
-    // Prepares the flow of the rule that stands in nodes, over the situations of a sheet and the actions that are named on it. The
-    // last node is the rule's root; nodes behind the first 256, which no part can name, are not looked at.
+    // Prepares the flow of the rule that stands in nodes, over the situations of a sheet and the actions that are named on
+    // it. The last node is the rule's root; nodes behind the first 256, which no part can name, are not looked at.
     pub fn over(nodes: &[Node], sheet: &Sheet) -> RuleFlow
         ensures as_its_places { IsThePlacesOf (sheet_of sheet.now) (term_of (take 256 nodes.now)) (rule_meaning result) }
     {
@@ -66,7 +66,7 @@ impl RuleFlow {
         let passing = Passing::of(rule, vocabulary);
         // Of a closure that gives an array the check infers no clause, so this one has its own.
         let follows_in = |s: u8| -> [u64; PLACES]
-            ensures followed { WherePasses passing.entry.rule.nodes.now passing.entry.pass s (λ holds. FollowsFrom holds s (term_of passing.entry.rule.nodes.now) result) }
+            ensures followed { WherePasses passing.entry.rule.nodes.now passing.entry.pass.items s (λ holds. FollowsFrom holds s (term_of passing.entry.rule.nodes.now) result) }
         { passing.follows_in(s) };
         RuleFlow {
             counts,

@@ -12,8 +12,8 @@ use rules::{Node, read_rule};
 use sheet::Sheet;
 
 impl RuleFlow {
-    // Reads the text of a rule by the names on a sheet, and prepares its flow. The nodes are what the rule is laid out in: it
-    // stands there from the first on, and a text that is refused leaves all of them empty.
+    // Reads the text of a rule by the names on a sheet, and prepares its flow. The nodes are what the rule is laid out in:
+    // it stands there from the first on, and a text that is refused leaves all of them empty.
     pub fn read(text: &[u8], sheet: &Sheet, nodes: &mut [Node]) -> Result<RuleFlow, RuleFault>
         ensures answer { meant result ≡ flow_on (sheet_of sheet.now) (length nodes.old) text.now }
         ensures allows_exactly_the_runs_of_the_rule { IfOk result (λ flow. AllowsTheRunsOf (sheet_of sheet.now) text.now (rule_meaning flow)) }

@@ -9,7 +9,7 @@ pub returns : goal.returns
 returns c =
     let nodes = c.args.self.now.nodes.now in
     let p = c.args.p in
-    let first = c.args.edges.now.first in
+    let first = c.args.edges.now.first.items in
     let root = length nodes - 1 in
     let begun : c.if-p-eq0.begun ≡ cond (eqb 0 p) (get_or first root 0) 0 =
     elim c.if-p-eq0.branch [
@@ -18,5 +18,5 @@ returns c =
     ] in
     record {
       followed = λ holds s firsts lasts.
-          follow_is holds s nodes p first c.next_masks.result c.if-p-eq0.begun _ firsts (c.next_masks.ensures.gone_on holds s firsts lasts) begun c.at_root.ensures.of_last;
+          follow_is holds s nodes p first c.next_masks.result.items c.if-p-eq0.begun _ firsts (c.next_masks.ensures.gone_on holds s firsts lasts) begun c.at_root.ensures.of_last;
     }

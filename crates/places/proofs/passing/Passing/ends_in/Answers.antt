@@ -16,6 +16,6 @@ returns c =
     let start : c.from-start.result ≡ cond (bit c.args.s c.at_root.result) 1 0 = c.from-start.ensures ∙ as_number c.has.result ∙ ap (λ b. cond b 1 0) c.has.ensures.bit in
     record {
       ended = λ n holds within passing.
-          end_is holds c.args.s nodes n c.args.self.now.pass c.last_masks.result c.at_root.result c.at_root-2.result c.from-start.result within passing
+          end_is holds c.args.s nodes n c.args.self.now.pass.items c.last_masks.result.items c.at_root.result c.at_root-2.result c.from-start.result within passing
           (c.last_masks.ensures.ended n holds within passing) c.at_root.ensures.of_last c.at_root-2.ensures.of_last start;
     }

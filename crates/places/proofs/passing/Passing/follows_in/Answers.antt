@@ -11,6 +11,6 @@ returns c =
           let firsts = c.first_masks.ensures.begun n holds within passing in
           let lasts = c.last_masks.ensures.ended n holds within passing in
           let filled = c.table_of.ensures.filled p few in
-          let gave : WhereKnown nodes c.first_masks.result c.last_masks.result (λ holds s. get_or c.table_of.result p 0 ≡ follow_mask holds s p (term_of nodes)) = search rules in
+          let gave : WhereKnown nodes c.first_masks.result.items c.last_masks.result.items (λ holds s. get_or c.table_of.result p 0 ≡ follow_mask holds s p (term_of nodes)) = search rules in
           gave holds c.args.s firsts lasts;
     }
