@@ -28,8 +28,8 @@ fn naming_reply<'a>(named: Result<u8, NameFault>) -> Reply<'a>
     }
 }
 
-// The answer to reading a rule's text. All refusals but that of a text too long and that of too few nodes, which
-// are those with the numbers 6 to 12, are for a sign.
+// The answer to reading a rule's text. All refusals are for a sign but two: that of a text too long and that of too few
+// nodes.
 fn reading_reply<'a>(text: &'a [u8], read: Result<Rule, RuleFault>) -> Reply<'a>
     ensures { said_by result ≡ read_said text.now read }
 {
