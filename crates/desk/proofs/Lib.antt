@@ -1,2 +1,2 @@
 -- The lemmas of the desk.
-pub mod Refused
+pub mod FirstRefusal

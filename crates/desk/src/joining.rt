@@ -26,7 +26,7 @@ fn join(first: Copied, second: Copied) -> Result<Copied, VocabularyFault>
 }
 
 // The vocabulary of all parts, or the first refusal on the way.
-#[tactic(auto, using(crate::proofs::Refused::refusal_stays))]
+#[tactic(auto, using(crate::proofs::FirstRefusal::refusal_stays))]
 pub fn vocabulary_of(parts: &[Part]) -> Result<Copied, VocabularyFault>
     ensures { meant copied_meaning result ≡ vocabulary_of parts.now }
 {

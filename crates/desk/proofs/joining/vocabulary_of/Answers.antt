@@ -2,7 +2,7 @@
 use Rattle.std.proofs.Common.{rules, Ok, sym, ◌∙◌}
 use Rattle.vocabulary.specs.Copies.{copied_meaning}
 use Rattle.script.specs.declared.command.Part.TheVariants.{Flags}
-use Rattle.desk.proofs.Refused.{refused_at}
+use Rattle.desk.proofs.FirstRefusal.{refused_at}
 use Rattle.desk.proofs.joining.vocabulary_of.Goals as goal
 
 pub returns-in_err-make : goal.returns-in_err-make
