@@ -19,6 +19,7 @@ use Rattle.desk.specs.Replies.{Said, has_read, made, number, opened_with, refuse
 use Rattle.desk.specs.declared.desk.Desk.{Desk}
 use Rattle.desk.specs.declared.desk.Desk.TheVariants.{Empty, Laid, Opened}
 use Rattle.desk.specs.declared.reply.Reply.{Reply}
+use Rattle.desk.specs.declared.reply.Refused.{Refused}
 
 -- Nothing, a sheet being laid out, or an opened book.
 pub data Stage : Type 0 where
@@ -99,6 +100,6 @@ performed (laying sheet) call = performed_laying sheet call
 performed (open_book book) call = performed_open book call
 
 -- A call was carried out as it should be, or found no memory and changed nothing.
-abbrev pub Done : Stage → Call → Result (Option Reply) AllocError → Stage → Type 0
+abbrev pub Done : Stage → Call → Result (Option (Result Reply Refused)) AllocError → Stage → Type 0
 Done before call (Ok answer) after = (option_map said_by answer ≡ (performed before call).reply) × (after ≡ (performed before call).after)
 Done before call (Err none) after = after ≡ before

@@ -3,7 +3,7 @@ ghost use Rattle.std.specs.Prelude.{◌≡◌};
 ghost use Rattle.vocabulary.specs.Answer.{meant};
 ghost use Rattle.vocabulary.specs.Copies.{copied_meaning};
 ghost use Rattle.vocabulary.specs.Pairs.{pair_of};
-ghost use Rattle.desk.specs.Joining.{join_to, make_of, vocabulary_of};
+ghost use Rattle.desk.specs.Joining.{make_of, vocabulary_of};
 
 use script::Part;
 use vocabulary::{Copied, Flags, Pair, Scale, VocabularyFault};
@@ -25,23 +25,17 @@ fn join(first: Copied, second: Copied) -> Result<Copied, VocabularyFault>
     Ok(Copied::of(&Pair::new(first, second)?))
 }
 
-// One more part, joined to what there is.
-fn join_part(all: Result<Copied, VocabularyFault>, part: Part) -> Result<Copied, VocabularyFault>
-    ensures { meant copied_meaning result ≡ join_to (meant copied_meaning all) (make_of part) }
-{
-    join(all?, make(part)?)
-}
-
-// The vocabulary of all parts.
+// The vocabulary of all parts, or the first refusal on the way.
+#[tactic(auto, using(crate::proofs::FirstRefusal::refusal_stays))]
 pub fn vocabulary_of(parts: &[Part]) -> Result<Copied, VocabularyFault>
     ensures { meant copied_meaning result ≡ vocabulary_of parts.now }
 {
     let Some((first, rest)) = parts.split_first() else {
         return Err(VocabularyFault::BeyondLimits);
     };
-    let mut all = make(*first);
+    let mut all = make(*first)?;
     for part in rest {
-        all = join_part(all, *part);
+        all = join(all, make(*part)?)?;
     }
-    all
+    Ok(all)
 }

@@ -10,7 +10,7 @@ mod reply;
 mod text;
 
 pub use desk::Desk;
-pub use reply::Reply;
+pub use reply::{Refused, Reply};
 
 #[cfg(test)]
 mod tests;

@@ -1,5 +1,5 @@
 // The calls of a script. A call that comes at the wrong time has no reply, and changes nothing.
-ghost use Rattle.std.specs.Prelude.{◌≡◌};
+ghost use Rattle.std.specs.Prelude.{◌≡◌, Err};
 ghost use Rattle.std.specs.Option.{option_map};
 ghost use Rattle.desk.specs.Replies.{said_by};
 ghost use Rattle.desk.specs.Performing.{Done, desk_of, numbered, performed, read_said};
@@ -7,7 +7,7 @@ ghost use Rattle.script.specs.Asked.{action, call_of, opening, reading, test, vo
 
 use crate::desk::Desk;
 use crate::joining::vocabulary_of;
-use crate::reply::Reply;
+use crate::reply::{Refused, Reply};
 use book::Book;
 use grammar::RuleFault;
 use refusals::Refusal;
@@ -19,37 +19,40 @@ use std::alloc::{AllocError, Global};
 use vocabulary::Vocabulary;
 
 // The answer to naming.
-fn naming_reply<'a>(named: Result<u8, NameFault>) -> Reply<'a>
+fn naming_reply<'a>(named: Result<u8, NameFault>) -> Result<Reply, Refused<'a>>
     ensures { said_by result ≡ numbered named }
 {
-    match named {
-        Ok(number) => Reply::Number(number),
-        Err(fault) => Reply::Refused(Refusal::from(fault)),
+    Ok(Reply::Number(named?))
+}
+
+// Why a rule's text is refused. All refusals are for a sign but two: that of a text too long and that of too few nodes.
+fn reading_refused<'a>(text: &'a [u8], fault: RuleFault) -> Refused<'a>
+    ensures { said_by (Err result) ≡ read_said text.now (Err fault) }
+{
+    let sign = match fault {
+        RuleFault::Sign(SignFault::TextTooLong) | RuleFault::NoRoom => None,
+        _ => Some(faulty_sign(text, fault)),
+    };
+    Refused {
+        refusal: Refusal::from(fault),
+        sign,
     }
 }
 
-// The answer to reading a rule's text. All refusals but that of a text too long and that of too few nodes, which
-// are those with the numbers 6 to 12, are for a sign.
-fn reading_reply<'a>(text: &'a [u8], read: Result<Rule, RuleFault>) -> Reply<'a>
+// The answer to reading a rule's text.
+fn reading_reply<'a>(text: &'a [u8], read: Result<Rule, RuleFault>) -> Result<Reply, Refused<'a>>
     ensures { said_by result ≡ read_said text.now read }
 {
-    match read {
-        Ok(rule) => Reply::Read {
-            nodes: rule.nodes,
-            actions: rule.actions,
-        },
-        Err(fault) => match fault {
-            RuleFault::Sign(SignFault::TextTooLong) | RuleFault::NoRoom => {
-                Reply::Refused(Refusal::from(fault))
-            }
-            _ => Reply::RefusedOn(Refusal::from(fault), faulty_sign(text, fault)),
-        },
-    }
+    let rule = read.map_err(|fault| reading_refused(text, fault))?;
+    Ok(Reply::Read {
+        nodes: rule.nodes,
+        actions: rule.actions,
+    })
 }
 
 impl Desk {
     // Reads a rule's text by the names of the book.
-    fn read<'a>(&self, text: &'a [u8]) -> Option<Reply<'a>>
+    fn read<'a>(&self, text: &'a [u8]) -> Option<Result<Reply, Refused<'a>>>
         ensures { option_map said_by result ≡ (performed (desk_of self.now) (reading text.now)).reply }
     {
         match self {
@@ -60,7 +63,7 @@ impl Desk {
 
     // Names the next test of the sheet. It and `name_action` call what they are named for, and a call passed on as a closure
     // would need a contract longer than either.
-    fn name_test<'a>(&mut self, name: &[u8]) -> Option<Reply<'a>>
+    fn name_test<'a>(&mut self, name: &[u8]) -> Option<Result<Reply, Refused<'a>>>
         ensures answer { option_map said_by result ≡ (performed (desk_of self.old) (test name.now)).reply }
         ensures after { desk_of self.new ≡ (performed (desk_of self.old) (test name.now)).after }
     {
@@ -71,7 +74,7 @@ impl Desk {
     }
 
     // Names the next action of the sheet.
-    fn name_action<'a>(&mut self, name: &[u8]) -> Option<Reply<'a>>
+    fn name_action<'a>(&mut self, name: &[u8]) -> Option<Result<Reply, Refused<'a>>>
         ensures answer { option_map said_by result ≡ (performed (desk_of self.old) (action name.now)).reply }
         ensures after { desk_of self.new ≡ (performed (desk_of self.old) (action name.now)).after }
     {
@@ -82,7 +85,7 @@ impl Desk {
     }
 
     // Turns the sheet into a book.
-    fn open<'a>(&mut self) -> Option<Reply<'a>>
+    fn open<'a>(&mut self) -> Option<Result<Reply, Refused<'a>>>
         ensures answer { option_map said_by result ≡ (performed (desk_of self.old) opening).reply }
         ensures after { desk_of self.new ≡ (performed (desk_of self.old) opening).after }
     {
@@ -94,7 +97,7 @@ impl Desk {
                     actions: book.actions_named(),
                 };
                 *self = Desk::Opened(book);
-                Some(reply)
+                Some(Ok(reply))
             }
             other => {
                 *self = other;
@@ -104,20 +107,24 @@ impl Desk {
     }
 
     // Begins a sheet from the parts of a vocabulary.
-    fn begin<'a>(&mut self, heap: Global, parts: &[Part]) -> Result<Option<Reply<'a>>, AllocError>
+    fn begin<'a>(
+        &mut self,
+        heap: Global,
+        parts: &[Part],
+    ) -> Result<Option<Result<Reply, Refused<'a>>>, AllocError>
         ensures { Done (desk_of self.old) (vocabulary parts.now) result (desk_of self.new) }
     {
         if let Desk::Empty = self {
             let made = match vocabulary_of(parts) {
                 Ok(made) => made,
-                Err(fault) => return Ok(Some(Reply::Refused(Refusal::from(fault)))),
+                Err(fault) => return Ok(Some(Err(Refused::from(fault)))),
             };
             let sheet = Sheet::begin(heap, &made)?;
             *self = Desk::Laid(sheet);
-            Ok(Some(Reply::Vocabulary {
+            Ok(Some(Ok(Reply::Vocabulary {
                 situations: made.situations(),
                 tests: made.tests(),
-            }))
+            })))
         } else {
             Ok(None)
         }
@@ -128,7 +135,7 @@ impl Desk {
         &mut self,
         heap: Global,
         command: &Command<'a>,
-    ) -> Result<Option<Reply<'a>>, AllocError>
+    ) -> Result<Option<Result<Reply, Refused<'a>>>, AllocError>
         ensures { Done (desk_of self.old) (call_of command.now) result (desk_of self.new) }
     {
         match command {

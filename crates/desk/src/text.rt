@@ -6,35 +6,37 @@ ghost use Rattle.texts.specs.Adds.{Adds};
 ghost use Rattle.desk.specs.Replies.{said_by};
 ghost use Rattle.desk.specs.Texts.{answer_text, heading, not_understood, reply_text};
 
-use crate::reply::Reply;
+use crate::reply::{Refused, Reply};
 use script::Command;
 use std::alloc::AllocError;
 use texts::{put, put_shown};
 
 // What stands behind the call in an answer.
-fn put_reply(out: &mut Vec<u8>, reply: Reply<'_>) -> Result<(), AllocError>
+fn put_reply(out: &mut Vec<u8>, reply: Result<Reply, Refused<'_>>) -> Result<(), AllocError>
     ensures { OnOk result (Adds (reply_text (said_by reply.entry)) out.old.items out.new.items) }
 {
     match reply {
-        Reply::Vocabulary { situations, tests } => {
+        Ok(Reply::Vocabulary { situations, tests }) => {
             put_shown(out, format_args!("{situations} situations, {tests} tests"))
         }
-        Reply::Number(number) => put_shown(out, format_args!("number {number}")),
-        Reply::Opened { tests, actions } => {
+        Ok(Reply::Number(number)) => put_shown(out, format_args!("number {number}")),
+        Ok(Reply::Opened { tests, actions }) => {
             put_shown(
                 out,
                 format_args!("{tests} tests and {actions} actions named"),
             )
         }
-        Reply::Read { nodes, actions } => {
+        Ok(Reply::Read { nodes, actions }) => {
             put_shown(out, format_args!("{nodes} nodes, {actions} actions"))
         }
-        Reply::Refused(refusal) => put_shown(out, refusal),
-        Reply::RefusedOn(refusal, faulty) => {
-            put_shown(out, format_args!("{refusal} on \""))?;
-            put(out, faulty)?;
-            put(out, b"\"")
-        }
+        Err(Refused { refusal, sign }) => match sign {
+            None => put_shown(out, refusal),
+            Some(faulty) => {
+                put_shown(out, format_args!("{refusal} on \""))?;
+                put(out, faulty)?;
+                put(out, b"\"")
+            }
+        },
     }
 }
 
@@ -69,7 +71,7 @@ pub fn put_answer(
     out: &mut Vec<u8>,
     line: u64,
     command: &Command<'_>,
-    reply: Option<Reply<'_>>,
+    reply: Option<Result<Reply, Refused<'_>>>,
 ) -> Result<(), AllocError>
     ensures { OnOk result (Adds (answer_text line (call_of command.now) (option_map said_by reply.entry)) out.old.items out.new.items) }
 {

@@ -19,10 +19,9 @@ fn read_script(rt: &HostRuntime) -> anyhow::Result<Vec<u8>> {
         return Err(anyhow!("more than one argument: rulebook [FILE]"));
     }
     match file {
-        Some(path) => match fs::read(rt, path.as_str()) {
-            Ok(script) => Ok(script),
-            Err(e) => Err(anyhow!(format!(in rt.alloc(); "cannot read {path}: {e}")?)),
-        },
+        Some(path) => fs::read(rt, path.as_str()).try_map_err(|e| {
+            Ok(anyhow!(format!(in rt.alloc(); "cannot read {path}: {e}")?))
+        }),
         None => {
             let mut script = Vec::new(rt.alloc());
             rt.stdin().read_to_end(&mut script)?;

@@ -1,0 +1,2 @@
+-- The lemmas of the desk.
+pub mod FirstRefusal
