@@ -5,13 +5,13 @@ use Rattle.vocabulary.specs.Written.{written, noted}
 
 -- A copy means what is written in it.
 abbrev pub copied_meaning : Copied → VocabularyMeaning
-copied_meaning c = written c.situations c.tests c.masks
+copied_meaning c = written c.size.situations c.size.tests c.masks
 
 -- Its counts are within the limits, and a question out of range is answered no.
 pub copied_lawful : (c : Copied) → Lawful (copied_meaning c)
 copied_lawful c = record {
-  some = c.some;
-  most = c.most;
-  few = c.few;
-  outside = asked_outside c.tests c.situations (noted c.masks);
+  some = c.size.some;
+  most = c.size.most;
+  few = c.size.few;
+  outside = asked_outside c.size.tests c.size.situations (noted c.masks);
 }

@@ -8,15 +8,15 @@ use Rattle.vocabulary.specs.Joined.{beside, joinable, joined, of_either}
 
 -- A pair means its two parts side by side, with the counts that it holds: those of its parts, as `pair_of` says of every pair that is made.
 abbrev pub pair_meaning : {V W : Type 0} → (V → VocabularyMeaning) → (W → VocabularyMeaning) → Pair V W → VocabularyMeaning
-pair_meaning first second p = beside p.situations p.tests p.firsts p.width (first p.first) (second p.second)
+pair_meaning first second p = beside p.size.situations p.size.tests p.firsts p.width (first p.first) (second p.second)
 
 -- Its counts in all are within the limits, and a question out of range is answered no.
 pub pair_lawful : {V W : Type 0} (first : V → VocabularyMeaning) (second : W → VocabularyMeaning) (p : Pair V W) → Lawful (pair_meaning first second p)
 pair_lawful first second p = record {
-  some = p.some;
-  most = p.most;
-  few = p.few;
-  outside = asked_outside p.tests p.situations (of_either p.firsts p.width (first p.first).holds (second p.second).holds);
+  some = p.size.some;
+  most = p.size.most;
+  few = p.size.few;
+  outside = asked_outside p.size.tests p.size.situations (of_either p.firsts p.width (first p.first).holds (second p.second).holds);
 }
 
 -- Two vocabularies that may be joined are granted as the joined one, and any other two are refused.

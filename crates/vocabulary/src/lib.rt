@@ -11,6 +11,7 @@ mod fault;
 mod flags;
 mod pair;
 mod scale;
+mod size;
 
 pub use copied::Copied;
 pub use fault::VocabularyFault;

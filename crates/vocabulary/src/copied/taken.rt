@@ -6,6 +6,7 @@ ghost use Rattle.vocabulary.specs.Masks.{mask_of};
 
 use crate::Vocabulary;
 use crate::copied::{Copied, MASKS};
+use crate::size::Size;
 use masks::{has, mask_where};
 
 // The situations of a vocabulary in which a test holds, a bit for each.
@@ -27,8 +28,7 @@ impl Copied {
             masks[usize::from(t)] = mask_of(v, t);
         }
         Copied {
-            situations,
-            tests,
+            size: Size { situations, tests },
             masks,
         }
     }
@@ -38,7 +38,7 @@ impl Copied {
         ensures mask { result ≡ mask_of (copied_meaning self.now) test }
         ensures each_bit_says_where_the_test_holds { (s : ℕ) → bit s result ≡ (copied_meaning self.now).holds test s }
     {
-        if test < self.tests {
+        if test < self.size.tests {
             self.masks[usize::from(test)]
         } else {
             0
@@ -52,14 +52,14 @@ impl Vocabulary for Copied {
     ghost lawful = { copied_lawful };
 
     fn situations(&self) -> u8 {
-        self.situations
+        self.size.situations
     }
 
     fn tests(&self) -> u8 {
-        self.tests
+        self.size.tests
     }
 
     fn holds(&self, test: u8, situation: u8) -> bool {
-        situation < self.situations && has(self.mask(test), situation)
+        situation < self.size.situations && has(self.mask(test), situation)
     }
 }

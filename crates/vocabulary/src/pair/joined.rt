@@ -7,6 +7,7 @@ ghost use Rattle.vocabulary.specs.Joining.{JoinedTestHoldsInItsPart, EachSituati
 use crate::Vocabulary;
 use crate::fault::VocabularyFault;
 use crate::pair::Pair;
+use crate::size::Size;
 
 // How many situations there may be.
 const MOST_SITUATIONS: u8 = 64;
@@ -28,8 +29,7 @@ impl<V: Vocabulary + Drop, W: Vocabulary + Drop> Pair<V, W> {
             Some(situations) if situations <= MOST_SITUATIONS && tests <= MOST_TESTS => Ok(Pair {
                 first,
                 second,
-                situations,
-                tests,
+                size: Size { situations, tests },
                 firsts,
                 width,
             }),
@@ -44,15 +44,15 @@ impl<V: Vocabulary, W: Vocabulary> Vocabulary for Pair<V, W> {
     ghost lawful = { pair_lawful V.Vocabulary.meaning W.Vocabulary.meaning };
 
     fn situations(&self) -> u8 {
-        self.situations
+        self.size.situations
     }
 
     fn tests(&self) -> u8 {
-        self.tests
+        self.size.tests
     }
 
     fn holds(&self, test: u8, situation: u8) -> bool {
-        if test >= self.tests || situation >= self.situations {
+        if test >= self.size.tests || situation >= self.size.situations {
             false
         } else if test < self.firsts {
             self.first.holds(test, situation / self.width)

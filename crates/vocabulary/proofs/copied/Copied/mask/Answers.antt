@@ -8,7 +8,7 @@ use Rattle.vocabulary.proofs.copied.Copied.mask.Goals as goal
 pub returns-then-test-self : goal.returns-then-test-self
 returns-then-test-self c =
     let x = c.args.self.now in
-    let e = ap (λ t. get_or x.masks t 0) c.from.ensures ∙ mask_written x.situations x.tests x.masks c.args.test (omega arith) (x.within c.args.test (omega arith)) in
+    let e = ap (λ t. get_or x.masks t 0) c.from.ensures ∙ mask_written x.size.situations x.size.tests x.masks c.args.test (omega arith) (x.within c.args.test (omega arith)) in
     record {
       mask = e;
       each_bit_says_where_the_test_holds = λ s. ap (bit s) e ∙ mask_bit (copied_meaning x) (copied_lawful x) c.args.test s;
