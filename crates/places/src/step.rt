@@ -1,5 +1,5 @@
 // A step up the nodes of a rule, in which a node's mask is told from those of the nodes in front of it.
-ghost use Rattle.std.specs.Prelude.{◌≡◌, ◌≤◌, length, take, slice_index};
+ghost use Rattle.std.specs.Prelude.{◌≡◌, length, take, slice_index};
 
 use crate::parts::{Masks, part};
 use rules::Node;
@@ -9,8 +9,6 @@ use rules::Node;
 pub(crate) struct Step<'a> {
     pub(crate) node: Node,
     pub(crate) front: &'a [u64],
-    // A part can name each.
-    ghost few: { length front.now ≤ 256 },
 }
 
 impl Step<'_> {
