@@ -115,6 +115,7 @@ impl Desk {
         ensures { Done (desk_of self.old) (vocabulary parts.now) result (desk_of self.new) }
     {
         if let Desk::Empty = self {
+            // A refusal is answered here and not passed on, since what `?` passes on is want of memory.
             let made = match vocabulary_of(parts) {
                 Ok(made) => made,
                 Err(fault) => return Ok(Some(Err(Refused::from(fault)))),

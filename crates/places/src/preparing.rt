@@ -47,6 +47,7 @@ impl Passing<'_> {
             first: self.first_masks(s),
             last: self.last_masks(s),
         };
+        // The constant is a length elsewhere, and 64 fits a byte.
         table_of(PLACES as u8, 0, |p| self.rule.following(&edges, p))
     }
 }

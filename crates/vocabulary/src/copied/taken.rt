@@ -24,6 +24,7 @@ impl Copied {
         let situations = v.situations();
         let tests = v.tests();
         let mut masks = [0; MASKS];
+        // A loop of one line, which a function that fills tables would not make plainer.
         for t in 0..tests {
             masks[usize::from(t)] = mask_of(v, t);
         }
