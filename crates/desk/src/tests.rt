@@ -14,9 +14,7 @@ fn answers(
     let mut desk = Desk::Empty;
     let mut out = Vec::new(rt.alloc());
     let mut all = true;
-    let mut number = 0u64;
-    for line in Lines::new(script) {
-        number = number.saturating_add(1);
+    for (number, line) in (1..u64::MAX).zip(Lines::new(script)) {
         if !desk.answer(rt.alloc(), number, line, &mut out)? {
             all = false;
         }

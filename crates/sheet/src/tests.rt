@@ -9,10 +9,8 @@ const LETTERS: [u8; 16] = *b"abcdefghijklmnop";
 #[test]
 fn sixteen_actions_and_no_more(rt: HostRuntime) -> Result<(), Fail> {
     let mut sheet = Sheet::begin(rt.alloc(), &Flags::new(0)?)?;
-    let mut number = 0u8;
-    for letter in LETTERS {
+    for (number, letter) in (0..16).zip(LETTERS) {
         assert_eq!(rt; sheet.name_action(&[letter])?, number);
-        number = number.saturating_add(1);
     }
     assert_eq!(rt; sheet.names().actions(), 16);
     assert_eq!(rt; sheet.name_action(b"q"), Err(NameFault::AllNamed));
