@@ -1,6 +1,6 @@
 -- Texts put piece by piece: what is written, with what is still ahead, is the whole. Serves loops that write.
-use Rattle.std.proofs.Common.{◌≡◌, ℕ, List, [], ◌++◌, sym, refl, ap, ◌∙◌}
-use Rattle.std.proofs.lemmas.List.{append_assoc, append-nil}
+use Rattle.std.proofs.Common.{◌≡◌, ℕ, List, ◌++◌, sym, ap, ◌∙◌}
+use Rattle.std.proofs.lemmas.List.{append_assoc}
 use Rattle.texts.specs.Adds.{Adds}
 
 -- Behind what was there the whole is to be written; of it the rest is still ahead.

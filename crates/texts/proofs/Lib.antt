@@ -1,2 +1,3 @@
 pub mod Behind
 pub mod Ahead
+pub mod Shown

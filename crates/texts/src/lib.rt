@@ -6,8 +6,12 @@
 ghost use Rattle.std.specs.Prelude.{decimal, IfSome, OnOk};
 ghost use Rattle.texts.specs.Adds.{Adds};
 
+mod writer;
+
+use crate::writer::Writer;
 use std::alloc::AllocError;
-use std::fmt::Display;
+use std::fmt::{Display, Write};
+use std::mem::replace;
 use words::push_decimal;
 
 // Bytes as they are.
@@ -21,8 +25,14 @@ pub fn put(out: &mut Vec<u8>, bytes: &[u8]) -> Result<(), AllocError>
 pub fn put_shown<D: Display + Drop>(out: &mut Vec<u8>, value: D) -> Result<(), AllocError>
     ensures what_it_shows { OnOk result (IfSome (D.output value) (λ text. Adds text out.old.items out.new.items)) }
 {
-    let text = value.to_string(*out.allocator())?;
-    out.extend_from_slice(text.as_bytes())
+    // The bytes are taken out while they are written to, so that no text is made first.
+    let none = Vec::new(*out.allocator());
+    let mut writer = Writer {
+        bytes: replace(out, none),
+    };
+    let written = writer.write(value);
+    *out = writer.bytes;
+    written.map_err(|_| AllocError)
 }
 
 // A number in digits, without its text being made first.
