@@ -3,6 +3,7 @@ ghost use Rattle.std.specs.Prelude.{◌≡◌, ℕ, ◌<◌, ◌≤◌, Bool};
 ghost use Rattle.masks.specs.Bits.{bits_below};
 
 // The numbers below a count at which the answer is yes, a bit for each.
+#[inline]
 pub fn mask_where<F: Fn(u8) -> bool>(count: u8, yes: F) -> u64
     requires room { count ≤ 64 }
     requires callable { (s : ℕ) → s < count → F.pre yes s }

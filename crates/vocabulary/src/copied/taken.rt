@@ -18,6 +18,7 @@ fn mask_of<V: Vocabulary>(v: &V, test: u8) -> u64
 
 impl Copied {
     // Asks a vocabulary every question, and writes the answers down.
+    #[inline]
     pub fn of<V: Vocabulary>(v: &V) -> Copied
         ensures meaning { copied_meaning result ≡ V.Vocabulary.meaning v.now }
     {
