@@ -1,8 +1,7 @@
 // Making a name of bytes, reading it back, and its sameness.
 ghost use Rattle.std.specs.Prelude.{◌≡◌};
-ghost use Rattle.std.proofs.Common.{rules};
-ghost use Rattle.std.specs.Cmp.Rules.{comparing};
-ghost use Rattle.sheet.specs.Spelling.{bytes_of, name_from, same_name, spelling};
+ghost use Rattle.std.specs.Cmp.{partial_equiv_from_equiv};
+ghost use Rattle.sheet.specs.Spelling.{bytes_of, name_from, name_laws, same_name, spelling};
 
 use crate::fault::NameFault;
 use crate::name::Name;
@@ -39,7 +38,7 @@ impl Name {
 impl PartialEq for Name {
     ghost eq = { same_name };
 
-    ghost laws = { Prim.search (comparing, rules) };
+    ghost laws = { partial_equiv_from_equiv name_laws };
 
     fn eq(&self, other: &Name) -> bool {
         self.as_bytes() == other.as_bytes()
@@ -47,7 +46,7 @@ impl PartialEq for Name {
 }
 
 impl Eq for Name {
-    ghost laws = { Prim.search (comparing, rules) };
+    ghost laws = { name_laws };
 }
 
 // In a list of names each is its own key.
