@@ -18,12 +18,21 @@ pub trait Keyed {
         ensures { result.now ≡ bears self.now };
 }
 
+// The first place of an element whose key is the same as `key`. It stands apart, so that what `find` promises follows from this
+// one clause at whichever return.
+fn first_place<E: Keyed>(list: &[E], key: &E::By) -> Option<usize>
+    ensures value { result ≡ position (λ x. E.By.eq (E.bears x) key.now) list.now }
+{
+    list.iter().position(|e| e.key() == key)
+}
+
 // The earliest place of an element whose key is the same as `key`; none where no element's is.
+#[tactic(auto, using(crate::proofs::Firsts::earliest_of))]
 pub fn find<E: Keyed>(list: &[E], key: &E::By) -> Option<usize>
     ensures value { result ≡ position (λ x. E.By.eq (E.bears x) key.now) list.now }
     ensures earliest { Earliest (λ x. E.By.eq (E.bears x) key.now) list.now result }
 {
-    list.iter().position(|e| e.key() == key)
+    first_place(list, key)
 }
 
 #[cfg(test)]
