@@ -1,11 +1,12 @@
 -- Where a blank, a colon and a blank stand, and where they stand last.
-use Rattle.std.proofs.Common.{◌≡◌, ℕ, suc, ◌-◌, ◌<◌, Bool, true, false, eqb, ◌&&◌, List, [], ◌∷◌, take, drop, Some, refl, ap, ◌∙◌, arith}
+use Rattle.std.proofs.Common.{◌≡◌, ℕ, suc, ◌-◌, ◌<◌, Bool, true, false, eqb, ◌&&◌, List, [], ◌∷◌, length, take, drop, Some, refl, sym, ap, ◌∙◌, arith, drop-drop}
 use Rattle.std.specs.Cmp.Lexicographic.{pointwise}
 use Rattle.std.proofs.Math.Bool.{and-true}
 use Rattle.std.proofs.lemmas.List.{get_or-drop}
 use native.Mathlib.Numerals.{unary_clauses}
 use Rattle.std.proofs.lemmas.Bool.{cond-true, cond-false}
-use Rattle.words.specs.Halves.{last_below, parts_at}
+use Rattle.std.specs.Option.{option_map}
+use Rattle.words.specs.Halves.{halves_of, last_below, parted_at, parts_at}
 
 -- Bytes begin with them where they stand at the first place,
 abbrev pub begins_with : List ℕ → Bool
@@ -34,3 +35,11 @@ last_before bytes i is = cond-false (parts_at bytes i) (Some i) (last_below byte
 
 pub last_in_front : (bytes : List ℕ) (n : ℕ) → 0 < n → parts_at bytes (n - 1) ≡ false → last_below bytes n ≡ last_below bytes (n - 1)
 last_in_front bytes n h is = ap (last_below bytes) {x = n} {y = suc (n - 1)} (omega arith) ∙ last_before bytes (n - 1) is
+
+-- What stands in front of the last place, and what stands behind its three bytes, are the halves.
+pub halved : (bytes : List ℕ) (i : ℕ) {front rest behind : List ℕ} → last_below bytes (length bytes) ≡ Some i → front ≡ take i bytes → rest ≡ drop i bytes
+    → behind ≡ drop 3 rest → Some (record { front = front; behind = behind }) ≡ halves_of bytes
+halved bytes i last before there cut =
+    let after = cut ∙ ap (drop 3) there ∙ drop-drop 3 i bytes in
+    let parts : record { front = _; behind = _ } ≡ parted_at bytes i = λ k. record { front = before k; behind = after k } in
+    ap Some parts ∙ sym (ap (option_map (parted_at bytes)) last)
